@@ -6,10 +6,13 @@ import os
 import signal
 import subprocess
 import sys
+import threading
 from pathlib import Path
 
 WORDS, FILES, NO_PROGRAM = 2, 3, 127
 DIVIDER = b"%%\n"
+# The signals that end a tool from outside, and let it do something first.
+ENDING = (signal.SIGHUP, signal.SIGINT, signal.SIGTERM)
 
 
 def stop(told, status):
@@ -49,9 +52,31 @@ def read(names):
 
 
 @contextlib.contextmanager
+def taken_away(path):
+    """While a file is by half, a signal that ends the tool takes it away first; then what the tool does at this signal is done, however long that takes."""
+    before = {number: signal.getsignal(number) for number in ENDING} if threading.current_thread() is threading.main_thread() else {}
+
+    def ended(number, frame):
+        del frame
+        path.unlink(missing_ok=True)
+        signal.signal(number, before[number])
+        os.kill(os.getpid(), number)
+
+    caught = [number for number, how in before.items() if how not in (signal.SIG_IGN, None)]
+    for number in caught:
+        signal.signal(number, ended)
+    try:
+        yield
+    finally:
+        path.unlink(missing_ok=True)
+        for number in caught:
+            signal.signal(number, before[number])
+
+
+@contextlib.contextmanager
 def written(name, kind=""):
     """A text to write, or with the kind `b` bytes; standard output where no name is given. A file has its name once the text is whole; where the work ends
-    before, or fails, what had the name keeps it. What is no file, such as a device, is written as it stands."""
+    before, fails or is interrupted, what had the name keeps it, and nothing else is left. What is no file, such as a device, is written as it stands."""
     if name is None or Path(name).exists() and not Path(name).is_file():
         with contextlib.nullcontext(sys.stdout) if name is None else open(name, f"w{kind}") as text:
             yield text
@@ -60,15 +85,14 @@ def written(name, kind=""):
     target = Path(name).resolve()
     beside = target.with_name(f".{target.name}.{os.getpid()}.new")
     try:
-        with open(beside, f"x{kind}") as text:
-            yield text
-        beside.replace(target)
+        with taken_away(beside):
+            with open(beside, f"x{kind}") as text:
+                yield text
+            beside.replace(target)
     except OSError as error:
         if error.filename in (None, str(beside)):
             error.filename = name
         raise
-    finally:
-        beside.unlink(missing_ok=True)
 
 
 def sections(texts):

@@ -2,7 +2,7 @@
 is installed too, so it knows nothing of this repository."""
 import json
 
-from shared import certificates, coverage_words, entry_places, scripts, way_steps
+from shared import certificates, coverage_words, entry_places, scripts, warning_words, way_steps
 
 YES = (
     "Every obligation holds at each point and for each step from it: nothing unsafe happens. The numbers are those of the script's states, of the "
@@ -10,11 +10,6 @@ YES = (
 )
 MEANT = "Whether the service is what you meant, `--coverage` shows: who hears whom, which notes are awaited, and which commands are done."
 MANY = "Calls come to a million configurations or more, so it isn't told what of this no call uses."
-WARNED = "What of it no call uses, the lines that no call hears, the notes and commands that nothing comes of, and the states in which calls are stuck:"
-UNWARNED = (
-    "Calls come to each point and use each transition and mark, each line is heard wherever a call rests, no note is swallowed but in the start state, "
-    "no command is left out or refused each time, and each call can be moved on and be brought to its end."
-)
 # What an obligation asks, and what may be done where it is broken, beside giving the entry that is wanted.
 RULES = {
     "K1": "the configuration in which a call opens is in some entry. No entry has the one below.",
@@ -83,77 +78,6 @@ KINDS = {
     "full": "has dialled a whole number (its digit map is completed by UM or FM)",
     "part": "has dialled a part of a number (its digit map is completed by PM)",
 }
-WARNINGS = {
-    "state_unlisted": "no entry is of it, so no call comes to it.",
-    "state_never_left": "calls come to it and none ends in it, and no step leads to another state.",
-    "arrow_unused": "it says where {0}.{kind} leads, and no call rests in it with a list for {0} that raises that.",
-    "mark_unneeded": "it marks {0} and {1} as talking, and no call that comes to it has an audio path between them.",
-    "line_deaf": "a call rests in it while {0} has a list without events, so nothing that is done at that telephone is heard.",
-    "note_swallowed": "a call rests in it with a list for {0} that raises {0}.{kind}, and it doesn't say where that leads, so nothing happens. {advice}",
-    "command_unsent": "its command {place}, `{command}`, is sent by no call that enters it: {lacking} isn't there. {advice}",
-    "command_refused": "entered {arrow}, its command {place}, `{command}`, is refused each time that it is reached. {advice}",
-    "request_empty": "entered {arrow}, its request is empty each time: none of its commands has what it names. {advice}",
-    "entry_unreached": "no call comes to any point of it, so it can go.",
-    "entry_held": "entry {holder} has each of its points, so it can go.",
-    "point_unreached": "no call comes to its point {point}, the first such; calls come to others of it.",
-    "cannot_be_moved": "a call can rest in it and wait for ever: no timer leads on, and no receiver that is lifted or put down. {advice}",
-    "cannot_end": "a call that is in it can't be brought to its end, whatever is done at its telephones from there. {advice}",
-}
-
-
-# What may be done about a warning, each in its case.
-HEAR = "Let `on.{0}.{kind}` lead somewhere, or give {0} a list without that event before a call rests here."
-BIND = "Let a state on the way here create {used}, or leave the command out."
-LEAD = "Let that arrow lead to a state that has other commands or none, or let one before create what they name."
-STAND = "{needed} Over that arrow this isn't so: let it lead to a state without the command, or see to it before."
-MOVE = (
-    "Digits and flashes don't count, since nothing may come of them: give it a `timer`, or let it say where a receiver leads that a list of its lines names."
-)
-ENDS = "Each call can be brought to its end, from wherever it has come to: by so many moves at most: {moves}."
-STUCK = "This leads to where no call can be brought to its end:"
-END = "Let a state on the way from there lead, by a timer, by a reply or by a receiver, to one that is marked `end`."
-# What a command asks, by its first word.
-NEEDS = {
-    "add": "It asks that its context is there, and that what it adds stands in the null context or is created.",
-    "modify": "It asks that what it modifies stands in that context.",
-    "move": "It asks that its context is there, and that what it moves stands in another one that isn't the null context.",
-    "subtract": "It asks that what it subtracts stands in that context.",
-    "topology": "It asks that both stand in that context.",
-}
-
-
-def used(script, command):
-    """The contexts and ephemerals that a command uses, and doesn't create, in its order."""
-    names = [*script.get("contexts", []), *script.get("ephemerals", [])]
-    words = [word.removeprefix("remote=") for word in command.split(" ")[1:]]
-    return [f"`{word}`" for word in dict.fromkeys(words) if word in names]
-
-
-def advice(told, more):
-    """What may be done about a warning of what nothing comes of; nothing of any other one."""
-    kind = told["warning"]
-    if kind == "note_swallowed":
-        return HEAR.format(*told["names"], **more)
-    if kind == "command_refused":
-        return STAND.format(needed=NEEDS[more["command"].split(" ")[0]])
-    return {"command_unsent": BIND, "request_empty": LEAD, "cannot_be_moved": MOVE, "cannot_end": END}.get(kind, "").format(**more)
-
-
-def of_arrow(told, page):
-    """The words on the arrow that a warning is about; nothing where it is about none."""
-    if "arrow_place" not in told:
-        return ""
-    arrow = coverage_words.arrow(page["arrows"][told["arrow_place"]])
-    return arrow if arrow.startswith("after") else arrow.replace("from", "from state", 1)
-
-
-def of_command(told, script):
-    """The command that a warning is about; nothing where it is about none."""
-    if "command_place" not in told:
-        return ""
-    return next(state for state in script["state"] if state["name"] == told["state"])["do"][told["command_place"]]
-
-
 def entry(script, told):
     """An entry that is told, as a certificate writes it on one line."""
     return json.dumps(certificates.of_facts(script, told), separators=(",", ":"))
@@ -179,25 +103,13 @@ def configuration(told):
     return lines
 
 
-def warned(told, page, script):
-    """The sentences on a warning of a page, without its place."""
-    command = of_command(told, script)
-    names = used(script, command)
-    more = {"kind": told.get("note_kind"), "holder": told.get("held_by"), "point": told.get("point_number"), "place": told.get("command_place")}
-    more |= {"command": command, "used": " and ".join(names), "lacking": " or ".join(names), "arrow": of_arrow(told, page)}
-    return WARNINGS[told["warning"]].format(*told.get("names", []), **more, advice=advice(told, more))
-
-
-def warning(told, page, script, lines):
-    """The line on a warning, by the lines that entries begin on."""
-    if "state" in told:
-        return f"- state {told['state']}: {warned(told, page, script)}"
-    return f"- entry {told['entry_place']}: at line {lines[told['entry_place']]}, {warned(told, page, script)}"
-
-
 def rule(page):
     """What a yes says."""
     return YES if "warnings" in page else f"{YES} {MANY}"
+
+
+ENDS = "Each call can be brought to its end, from wherever it has come to: by so many moves at most: {moves}."
+STUCK = "This leads to where no call can be brought to its end:"
 
 
 def ended(page, script):
@@ -216,9 +128,8 @@ def worth(page, texts):
     else:
         yield [f"{rule(page)} {MEANT}"]
         script, lines = scripts.read(texts[0]), entry_places.lines(texts[1])
-        said = [warning(told, page, script, lines) for told in page["warnings"]]
-        yield [WARNED, *said] if said else [UNWARNED]
-        yield from ended(page, script)
+        said = [warning_words.warning(told, page, script, lines) for told in page["warnings"]]
+        yield [warning_words.heading(page), *said] if said else [warning_words.unwarned(page)]
 
 
 def covered(page, texts):

@@ -1,12 +1,13 @@
-"""What a service does under a yes as the cells of a table, a row for each state: who hears whom at rest, which notes are awaited and which are swallowed, and
-which commands aren't always done, by the facts that `mgexplain` tells. It is installed too, so it knows nothing of this repository."""
+"""What a service does under a yes as the cells of a table, a row for each state: who hears whom at rest, which notes are awaited and which are swallowed, what
+plays and who may have lifted, and which commands aren't always done, by the facts that `mgexplain` tells. It is installed too, so it knows nothing of this
+repository."""
 from collections import namedtuple
 
 from shared import coverage_words
 
-# A row: the name of the state, what is said of who hears whom, the notes that are awaited, each with the state that it leads to, those that are swallowed, and
-# the commands that aren't always done, each with what else becomes of it.
-Row = namedtuple("Row", "state hears awaited swallowed commands")
+# A row: the name of the state, what is said of who hears whom, the notes that are awaited, each with the state that it leads to, those that are swallowed, what
+# is said of telephones, and the commands that aren't always done, each with what else becomes of it.
+Row = namedtuple("Row", "state hears awaited swallowed telephones commands")
 NOT_DONE = ("left_out", "refused", "not_reached")
 
 
@@ -51,7 +52,12 @@ def row(told, state, arrows):
     on = state.get("on", {})
     awaited = [(f"{line}.{kind}", on[line][kind]) for line, kind in notes(told, state, True)]
     swallowed = [f"{line}.{kind}" for line, kind in notes(told, state, False)]
-    return Row(state["name"], hearing(told, state), awaited, swallowed, [*commands(state, arrows)])
+    return Row(state["name"], hearing(told, state), awaited, swallowed, coverage_words.telephones(told, state), [*commands(state, arrows)])
+
+
+def has_telephones(page):
+    """Whether a page tells of telephones."""
+    return any("telephones" in told for told in page.get("rests", []))
 
 
 def rows(page, script):

@@ -1,9 +1,11 @@
-"""What a service does under a yes, state by state: who hears whom where calls rest, which notes are awaited, where a mark is needed, and what becomes of each
-command over each arrow, by the facts that `mgexplain` tells. Nothing is decided here. It is installed too, so it knows nothing of this repository."""
+"""What a service does under a yes, state by state: who hears whom where calls rest, which notes are awaited, what plays and who may have lifted, where a mark
+is needed, and what becomes of each command over each arrow, by the facts that `mgexplain` tells. Nothing is decided here. It is installed too, so it knows
+nothing of this repository."""
 
 NO_REST = "no call rests in it"
 NOBODY = "at rest nobody hears another"
 END = "a call that rests in it has ended"
+QUIET = "all silent, none lifted"
 # How far a request has come, by the words of a certificate.
 LINKS = {"sent": "while its request is on its way", "ok": "once it is done", "fault": "after it was refused", "rest": "at rest"}
 # What becomes of a command, by its flag, in the order in which it is said.
@@ -46,6 +48,34 @@ def notes(told, state):
             yield f"  {word}: " + ", ".join(f"{one['on_line']}.{one['note_kind']}{lead}" for one, lead in zip(these, leads))
 
 
+def tones(sets):
+    """Sets of signals in words."""
+    return " or ".join(" and ".join(each) or "nothing" for each in sets)
+
+
+def telephone(told, state):
+    """What is said of a telephone: what plays, what else its line may have been given last, and whether its receiver may be lifted."""
+    plays = told.get("plays", told["told"])
+    if plays not in ([], [[]]):
+        yield tones(plays)
+    if more := [each for each in told["told"] if each not in plays]:
+        yield f"told {tones(more)} too"
+    if told["lifted"]:
+        yield "lifted in silence" if told["silent"] and not state.get("end", False) else "lifted"
+
+
+def telephones(told, state):
+    """The telephones of which there is something to say, each with what is said of it; none where nothing is told of them."""
+    found = ((one["on_line"], [*telephone(one, state)]) for one in told.get("telephones", []))
+    return [f"{line}: {', '.join(words)}" for line, words in found if words]
+
+
+def at_telephones(told, state):
+    """The line on the telephones; none where nothing is told of them."""
+    if told.get("telephones"):
+        yield f"  telephones: {'; '.join(telephones(told, state)) or QUIET}"
+
+
 def marks(told):
     """The lines on where marks are needed."""
     for mark in told["marks"]:
@@ -86,6 +116,7 @@ def at_rest(told, state):
         yield f"  {END}"
     yield from hearing(told)
     yield from notes(told, state)
+    yield from at_telephones(told, state)
 
 
 def of_state(told, state, arrows):

@@ -60,15 +60,16 @@ def became(end, is_wide):
 
 def made(program, texts, asked, tell):
     """What drafting from a script and a certificate comes to, as it is told on the way. Where they can't be read, the tool ends with what is said of that."""
+    def told(entries, count):
+        tell(f"drafting: {entries} entries, {count} configurations put in")
+
+    told(0, 0)
     if page_of(program, texts)["status"] == 3:
         asking.stop(explained.in_words(program, [], texts)[1].rstrip("\n"), 1)
     script, entries = begun(asked[:2], texts)
 
     def page_of_text(text):
         return page_of(program, [texts[0], text.encode()])
-
-    def told(entries, count):
-        tell(f"drafting: {entries} entries, {count} configurations put in")
 
     end = fronts.Draft(script, entries, asked.is_wide, page_of_text, told).followed()
     if not asked.is_wide or end.page["status"]:

@@ -9,7 +9,9 @@ import subprocess
 from collections import namedtuple
 from pathlib import Path
 
-from shared import asking, certificates, check_words, coverage_cells, explained, ladders, marked_pictures, messages, pictures, run_words, scripts
+from shared import (
+    asking, certificates, check_words, coverage_cells, explained, ladders, marked_pictures, messages, pictures, run_words, scripts, warning_words,
+)
 
 try:
     import jinja2
@@ -151,10 +153,11 @@ def laid_out(names, texts, verdict, run):
         heading=heading(texts[0]),
         verdict=verdict,
         rule=check_words.rule(verdict.page),
-        warned=check_words.WARNED,
-        warnings=[(told, check_words.warned(told, verdict.page, script)) for told in verdict.page.get("warnings", [])],
+        warned=warning_words.heading(verdict.page),
+        warnings=[(told, warning_words.warned(told, verdict.page, script)) for told in verdict.page.get("warnings", [])],
         words=verdict.words.partition("\n")[2].strip("\n"),
         coverage=[*coverage_cells.rows(verdict.page, script)],
+        has_telephones=coverage_cells.has_telephones(verdict.page),
         machine=svg("\n".join(marked_pictures.lines(verdict.page, texts))),
         script=script,
         states=[*states_of(script, entries, verdict.page.get("point", {}))],

@@ -1,9 +1,9 @@
 """`mgtool check`: all that is wrong with a script by its place, and the line of `mgcall check` with its status. It is installed too, so it knows nothing of
 this repository."""
 from shared import asking, explained
-from shared.door import forms, inputs, kept, verdicts
+from shared.door import forms, inputs, kept, meant, verdicts
 from shared.door.declarations import TEXT
-from shared.door.diagnostics import TOP, Place, Report, error
+from shared.door.diagnostics import TOP, WARNING, Place, Report, error
 from shared.door.inputs import CERTIFICATE, SCRIPT
 from shared.mistakes import told as mistakes
 from shared.unread_words import RULES
@@ -37,11 +37,16 @@ def unread(page, script):
 
 
 def explanation(asked, script, certificate, find):
-    """The status that a yes has, and what is told of the answer."""
+    """The status that a yes has, and what is told of the answer: a yes under which everything is meant that `mgexplain` warns of has no warning."""
     status, page = explained.told(find("mgexplain"), [STRICT] if asked.is_strict else [], [script.text, certificate.text])
     if page is None or page["status"] not in (YES, NO, asking.FILES):
         return status, []
-    return status, unread(page, script) if "fault" in page else verdicts.diagnostics(page, script, certificate)
+    if "fault" in page:
+        return status, unread(page, script)
+    ignored, untaken = meant.of_page(page, script)
+    found = [*verdicts.diagnostics(page, script, certificate, ignored), *untaken]
+    is_meant = "obligation" not in page and status == NO and all(one.severity != WARNING for one in found)
+    return YES if is_meant else status, found
 
 
 def report(asked, script, named, find):

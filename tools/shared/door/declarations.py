@@ -56,7 +56,10 @@ COMMANDS = (
         (SCRIPT,),
         (
             CERTIFICATE,
-            Option("is_strict", "--strict", None, "Status 1 for a yes under which something is warned of.", None),
+            Option(
+                "is_strict", "--strict", None,
+                "Status 1 for a yes under which something is warned of; a note that the intents beside the script say is ignored isn't.", None,
+            ),
             Option("format", "--format", "FORM", "How it is told: as text, one JSON value, SARIF 2.1.0, or JUnit XML. As text where none is named.", FORMATS),
             Option("pieces", "--pieces", "N", "Check the certificate in so many pieces, 1 to 64, by as many threads. The answer is the same.", (1, 64)),
         ),

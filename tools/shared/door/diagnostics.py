@@ -8,8 +8,8 @@ ERROR, WARNING, NOTE = "error", "warning", "note"
 # A place in a text.
 Place = namedtuple("Place", "line column")
 TOP = Place(1, 1)
-# What is told: the name of the file, the place, which is None where the file can't be read, how grave it is, by which rule, which is empty for a note, and
-# what.
+# What is told: the name of the file, the place, which is None where the file can't be read, how grave it is, by which rule, which is empty for a note on what
+# stands before it, and what.
 Diagnostic = namedtuple("Diagnostic", "file place severity rule text")
 # All that a check comes to: the name of the script, the line of `mgcall check`, which is empty where nobody was asked, the status to end with, what is told,
 # and the texts of the files by their names.
@@ -29,6 +29,11 @@ def warning(file, place, rule, text):
 def note(file, place, text):
     """A note on what stands before it."""
     return Diagnostic(file, place, NOTE, "", printable(text))
+
+
+def meant(file, place, rule, text):
+    """A note that stands by itself: of what would be a warning, and is meant."""
+    return Diagnostic(file, place, NOTE, rule, printable(f"meant: {text}"))
 
 
 def line(told):

@@ -6,18 +6,21 @@ from shared import scripts
 from shared.door import places
 from shared.door.diagnostics import TOP, error
 from shared.door.inputs import OF_SCENARIOS
-from shared.door.intents import AWAITS, BOTH_WAYS, DOES_ALL, ENDS, HEARS, IGNORES, KEY, ONE_WAY, REACHES, SILENT
+from shared.door.intents import AWAITS, BOTH_WAYS, DOES_ALL, ENDS, HEARS, IGNORES, KEY, NOBODY_RINGS, ONE_WAY, REACHES, RINGS, SILENT, TONES
 from shared.mistakes.near import nearest
 from shared.mistakes.nodes import LIST, TABLE, TEXT, TRUTH, Unread
+from shared.mistakes.scenario_words import TONES as KNOWN_TONES
 from shared.mistakes.words import KINDS, listed, shown
 
-KEYS = (HEARS, SILENT, AWAITS, IGNORES, REACHES, ENDS, DOES_ALL)
+KEYS = (HEARS, SILENT, AWAITS, IGNORES, REACHES, ENDS, DOES_ALL, RINGS, NOBODY_RINGS, TONES)
 PAIR = re.compile(rf"(\w+)([{BOTH_WAYS}{ONE_WAY}])(\w+)")
 NOTE = re.compile(r"(\w+)\.(\w+)")
 # What is said of a value that isn't of the kind that its key asks for.
 NOT_PAIRS = "it has to be a list of pairs of lines, as `[\"a-b\"]` or `[\"a>b\"]`"
 NOT_NOTES = "it has to be a list of notes, as `[\"a.on\"]`"
 NOT_STATES = "it has to be the name of a state, or a list of such"
+NOT_LINES = "it has to be a list of lines, as `[\"b\"]`"
+NOT_TONES = "it has to be a table of lines, each with a tone or a list of tones, as `{ a = \"rt\" }`"
 NOT_TRUE = "it has to be `true`; where nothing is asked the key isn't there"
 
 
@@ -70,6 +73,28 @@ class Mistakes:
         if found[2] not in KINDS:
             self.add(self.text.inside(node), path, f"{shown(found[2])} is no kind of note; the kinds are {listed(KINDS)}", found[2], KINDS)
 
+    def line_alone(self, node, path):
+        """The name of a line as a text."""
+        self.line(node, path, node.value)
+
+    def tone(self, node, path):
+        """A tone."""
+        if node.value not in KNOWN_TONES:
+            self.add(self.text.inside(node), path, f"{shown(node.value)} is no tone; the tones are {listed(KNOWN_TONES)}", node.value, tuple(KNOWN_TONES))
+
+    def tones(self, at, node, path):
+        """Lines with their tones."""
+        if node.kind != TABLE:
+            self.add(self.place(at), path, NOT_TONES)
+            return
+        for name, (place, value) in node.value.items():
+            if name not in self.lines:
+                self.add(self.place(place), path, f"no line {shown(name)} is declared", name, self.lines)
+            if value.kind == TEXT:
+                self.tone(value, path)
+            else:
+                self.texts(place, value, path, NOT_TONES, self.tone)
+
     def state(self, node, path):
         """The name of a state."""
         if node.value not in self.states:
@@ -94,6 +119,10 @@ class Mistakes:
             self.texts(at, node, path, NOT_PAIRS, self.pair)
         elif key in (AWAITS, IGNORES):
             self.texts(at, node, path, NOT_NOTES, self.note)
+        elif key == RINGS:
+            self.texts(at, node, path, NOT_LINES, self.line_alone)
+        elif key == TONES:
+            self.tones(at, node, path)
         elif key == REACHES and node.kind == TEXT:
             self.state(node, path)
         elif key == REACHES:
@@ -116,8 +145,9 @@ class Mistakes:
                 self.value(key, place, value, f"{path}: `{key}`")
             else:
                 self.add(self.place(place), path, f"the key {shown(key)} isn't known; the keys are {listed(KEYS)}", key, KEYS)
-        if {HEARS, SILENT} <= {*node.value}:
-            self.add(self.place(node.place(SILENT)), path, f"`{SILENT}` says what `{HEARS} = []` says, and `{HEARS}` stands there too")
+        for key, other in ((SILENT, HEARS), (NOBODY_RINGS, RINGS)):
+            if {key, other} <= {*node.value}:
+                self.add(self.place(node.place(key)), path, f"`{key}` says what `{other} = []` says, and `{other}` stands there too")
 
     def whole(self):
         """Looks at all intents; the mistakes in the order of the file."""

@@ -2,16 +2,18 @@
 lead on, which states are reached, whether each command is done. What doesn't hold is told at its place in the file, with what is so instead. Nothing is
 decided here but by these facts. It is installed too, so it knows nothing of this repository."""
 from shared import coverage_words, scripts
-from shared.door import intent_ways, places
+from shared.door import intent_telephones, intent_ways, places
 from shared.door.diagnostics import error, note
 
 KEY = "intents"
 HEARS, SILENT, AWAITS, IGNORES, REACHES, ENDS, DOES_ALL = "hears", "silent", "awaits", "ignores", "reaches", "ends", "does_all"
+RINGS, NOBODY_RINGS, TONES = OF_TELEPHONES = "rings", "nobody_rings", "tones"
 BOTH_WAYS, ONE_WAY = "-", ">"
 # What is said of a pair by the part of the configurations at rest in which the one hears the other.
 LACKS = {"some": "{to} doesn't hear {of} in some calls that rest in it", "none": "{to} hears {of} in no call that rests in it"}
 HAS = {"some": "{to} hears {of} in some calls that rest in it", "all": "{to} hears {of} in each call that rests in it"}
 NO_REST = "no call rests in it"
+NO_TELEPHONES = "whether it holds isn't told: this mgexplain tells too little of telephones"
 UNTOLD = "whether it holds isn't told: calls come to a million configurations or more"
 
 
@@ -192,6 +194,23 @@ class Asked:
                 yield self.broken(f"entered {coverage_words.arrow(arrow)}, {'; '.join(words)}", DOES_ALL)
                 yield self.on_arrow(arrow, f"this leads to `{self.name}`")
 
+    # ---- telephones
+
+    def of_telephones(self, key):
+        """What doesn't hold of what plays, with what is so instead."""
+        told, value = self.state.told, self.intent[key]
+        if not told["telephones"]:
+            return [] if key == NOBODY_RINGS else [self.broken(NO_REST, key)]
+        if key != NOBODY_RINGS and not intent_telephones.are_played(told["telephones"]):
+            return [self.broken(NO_TELEPHONES, key)]
+        if key == TONES:
+            found = [self.broken(says, key, line) for line, says in intent_telephones.playing(told["telephones"], value)]
+        else:
+            lines = [] if key == NOBODY_RINGS else value
+            found = [self.broken(says, key, *place) for says, *place in intent_telephones.ringing(told["telephones"], lines)]
+        instead = "; ".join(coverage_words.telephones(told, self.state.script)) or coverage_words.QUIET
+        return [*found, self.instead(key, f"so it is: {instead}")] if found else []
+
     # ---- all of it
 
     def at_rest(self, key):
@@ -207,6 +226,8 @@ class Asked:
         """What doesn't hold of a key."""
         if self.state.told is None:
             return [self.broken(UNTOLD, key)]
+        if key in OF_TELEPHONES:
+            return self.of_telephones(key) if "telephones" in self.state.told else [self.broken(NO_TELEPHONES, key)]
         if key in (HEARS, SILENT, AWAITS, IGNORES):
             return self.at_rest(key)
         return self.of_reaches(texts(self.intent[key])) if key == REACHES else self.of_ends() if key == ENDS else self.of_commands()

@@ -20,7 +20,7 @@ def outcome(report):
     lines = plain("\n".join(map(diagnostics.line, report.diagnostics)))
     if report.status:
         tag = "failure" if report.status == FAILED else "error"
-        rule = next((told.rule for told in report.diagnostics if told.rule), "no-answer")
+        rule = next((told.rule for told in report.diagnostics if told.severity != diagnostics.NOTE), "no-answer")
         message = report.line or lines.partition("\n")[0] or f"status {report.status}"
         yield f"<{tag} type={quoteattr(plain(rule))} message={quoteattr(plain(message))}>{escape(lines)}</{tag}>"
     yield f"<system-out>{escape(plain(report.line) if report.status else f'{lines}{chr(10) * bool(lines)}{plain(report.line)}')}</system-out>"

@@ -1,5 +1,5 @@
-"""What a check comes to as SARIF 2.1.0: a result for each error and each warning, with the notes behind it as related locations. Columns count characters
-there. It is installed too, so it knows nothing of this repository."""
+"""What a check comes to as SARIF 2.1.0: a result for each error, each warning and what is meant, with the notes behind it as related locations. Columns count
+characters there. It is installed too, so it knows nothing of this repository."""
 import json
 from urllib.parse import quote
 
@@ -19,7 +19,7 @@ def uri(name):
 def column(told, texts):
     """The column in characters of a place whose column counts bytes."""
     lines = texts.get(told.file, b"").split(b"\n")
-    if told.place.line > len(lines):
+    if told.file not in texts or told.place.line > len(lines):
         return told.place.column
     return len(lines[told.place.line - 1][: told.place.column - 1].decode(errors="replace")) + 1
 
@@ -42,10 +42,10 @@ def result(told, notes, texts):
 
 
 def results(report):
-    """The errors and warnings, each with the notes that stand behind it."""
+    """The errors, the warnings and what is meant, each with the notes that stand behind it."""
     groups = []
     for told in report.diagnostics:
-        if told.severity == NOTE and groups:
+        if told.severity == NOTE and not told.rule and groups:
             groups[-1][1].append(told)
         else:
             groups.append((told, []))

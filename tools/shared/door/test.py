@@ -70,20 +70,20 @@ def wanted(asked, scenarios, intents):
     return found, of_states
 
 
-def write(asked, found, intents, given, rules):
+def write(asked, found, intents, given):
     """Writes what scenarios and intents come to in the form that is asked for; gives the status."""
     as_asked = {JSON: told.as_json, JUNIT: told.as_junit}.get(asked.format, told.as_text)
-    print(as_asked(found, intents, given.name, places.Text(given.text), rules.at_end.values if rules.at_end else {}), end="")
+    print(as_asked(found, intents, given.name, places.Text(given.text)), end="")
     return FAILED if told.counts(found, intents)[1] else PASSED
 
 
-def intents_of(files, rules, find):
+def intents_of(files, tables, find):
     """The intents of a file, judged by the facts of a yes: script, certificate and file of scenarios."""
     script, certificate, given = files
-    if not rules.intents:
+    if not tables:
         return []
     _, page = explained.told(find("mgexplain"), [], [script.text, certificate.text])
-    return intended.judged(page, script, given, rules.intents)
+    return intended.judged(page, script, given, tables)
 
 
 def record(asked, runner, scenarios, given, tell):
@@ -101,8 +101,8 @@ def record(asked, runner, scenarios, given, tell):
 def run(asked, runner, files, find):
     """Runs the scenarios of a file, and tells what they and the intents come to; gives the status."""
     given = files[-1]
-    scenarios, rules = reading.read(given.text)
-    found, intents = wanted(asked, scenarios, intents_of(files, rules, find))
+    scenarios, tables = reading.read(given.text)
+    found, intents = wanted(asked, scenarios, intents_of(files, tables, find))
     with progress.line() as line:
         def tell(count, whole):
             line(f"[{'#' * (BAR * count // whole):.<{BAR}}] {count} of {whole} at their ends")
@@ -110,8 +110,8 @@ def run(asked, runner, files, find):
         if asked.target is not None:
             return record(asked, runner, found, given, tell)
         how = outcomes.with_faults if asked.has_faults else outcomes.plain
-        came = [*how(runner, found, rules, tell)]
-    return write(asked, came, intents, given, rules)
+        came = [*how(runner, found, tell)]
+    return write(asked, came, intents, given)
 
 
 def done(asked, find):

@@ -1,8 +1,8 @@
 """What is told of a script and a certificate that are read: of a No its diagnosis, with the way of a call there and what may be done; of a yes what is warned
 of. The facts are those of `mgexplain`; nothing is decided here. It is installed too, so it knows nothing of this repository."""
-from shared import certificates, check_words, scripts, way_steps
+from shared import certificates, check_words, scripts, warning_words, way_steps
 from shared.door import places
-from shared.door.diagnostics import TOP, error, note, warning
+from shared.door.diagnostics import TOP, error, meant, note, warning
 
 # The key of a script that names the state of a configuration which is no point's.
 NAMED_BY = {"K1": "start", "K6": "restart"}
@@ -12,6 +12,8 @@ LACKING = {
 }
 # Where an entry goes that would have what no entry has.
 BEHIND, IN_PLACE = "this entry would have it, behind the last one: {}", "this entry would have it, in the place of entry {}: {}"
+# What is said of a note that is swallowed, and meant to be.
+MEANT = "state {state}: a call rests in it with a list that raises {word}, which leads nowhere, and its intents say so"
 # The rule under which it is told that nobody knows what no call uses.
 UNKNOWN = "unknown"
 
@@ -22,10 +24,10 @@ def where(told):
 
 
 class Verdict:
-    """What is told of a page, with the files that it is about."""
+    """What is told of a page, with the files that it is about, and the notes of states that are meant to be ignored."""
 
-    def __init__(self, page, script, certificate):
-        self.page, self.script, self.certificate = page, script, certificate
+    def __init__(self, page, script, certificate, ignored):
+        self.page, self.script, self.certificate, self.ignored = page, script, certificate, ignored
         self.table = scripts.read(script.text)
         self.parts, self.entries = places.Script(script.text), places.Certificate(certificate.text)
 
@@ -41,7 +43,7 @@ class Verdict:
 
     def warned(self, told):
         """The warning that is told."""
-        says = check_words.warned(told, self.page, self.table).rstrip(". ")
+        says = warning_words.warned(told, self.page, self.table).rstrip(". ")
         if "state" not in told:
             return warning(self.certificate.name, self.entries.entry(told["entry_place"]), told["warning"], f"entry {told['entry_place']}: {says}")
         state, names = told["state"], told.get("names", [])
@@ -53,6 +55,8 @@ class Verdict:
             place = self.parts.command(state, told["command_place"])
         else:
             place = self.parts.state(state)
+        if (state, word := f"{names[0]}.{told['note_kind']}" if "note_kind" in told else "") in self.ignored:
+            return meant(self.script.name, place, told["warning"], MEANT.format(state=state, word=word))
         return warning(self.script.name, place, told["warning"], f"state {state}: {says}")
 
     def worth(self):
@@ -134,7 +138,7 @@ class Verdict:
             yield self.in_script(self.parts.state(state), check_words.ADVICE[obligation])
 
 
-def diagnostics(page, script, certificate):
-    """What is told of a page on a script and a certificate that are read."""
-    told = Verdict(page, script, certificate)
+def diagnostics(page, script, certificate, ignored=frozenset()):
+    """What is told of a page on a script and a certificate that are read; what the notes raise that are ignored is no warning."""
+    told = Verdict(page, script, certificate, ignored)
     return [*(told.refuted() if "obligation" in page else told.worth())]

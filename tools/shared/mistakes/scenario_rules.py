@@ -7,7 +7,8 @@ from shared.mistakes.scenario_words import PHASES, TONES
 from shared.mistakes.words import listed, shown
 
 NAME = "scenarios"
-TOP, SCENARIO, ALWAYS = ("scenario", "always", "at_end", "intents"), ("name", "steps", "report"), ("never_hear", "may_hear")
+RULES, ALWAYS = ("always", "at_end"), ("never_hear", "may_hear")
+TOP, SCENARIO = ("scenario", *RULES, "intents"), ("name", "steps", "report", *RULES)
 EXPECTED = ("state", "phase", "hears", "tones")
 STEP = ("do", *EXPECTED)
 # How many words a scenario has at most, a symbol that is dialled counted as one, how many of these restart the gateway, and how long a name is.
@@ -166,6 +167,18 @@ class Rules:
             self.steps(path, *found["steps"])
         if "report" in found and found["report"][1].kind != TEXT:
             self.bad(found["report"][0], path, "`report` has to be a text", "report")
+        self.rules(f"{path}: ", found, ('as `{ may_hear = ["a-b"] }`', 'as `{ phase = "ended" }`'))
+
+    def rules(self, path, found, begun):
+        """What has to hold, of the known keys of the file or of a scenario; `begun` is how each of the tables is."""
+        for key, how in zip(RULES, begun):
+            if key in found:
+                where = f"{path}`{key}`"
+                known = self.table(where, found[key][1], ALWAYS if key == "always" else EXPECTED, how) or {}
+                self.expected(where, known)
+                for pairs in ALWAYS:
+                    if pairs in known:
+                        self.pairs(f"{where}: `{pairs}`", *known[pairs])
 
     def scenarios(self, at, node):
         """The scenarios."""
@@ -181,13 +194,7 @@ class Rules:
             self.scenarios(*found["scenario"])
         elif "intents" not in found:
             self.bad(self.root.at, "the top of the file", "it has no scenario, which is begun by `[[scenario]]`")
-        if "always" in found:
-            of_always = self.table("`always`", found["always"][1], ALWAYS, "begun by `[always]`") or {}
-            for key in ALWAYS:
-                if key in of_always:
-                    self.pairs(f"`always`: `{key}`", *of_always[key])
-        if "at_end" in found:
-            self.expected("`at_end`", self.table("`at_end`", found["at_end"][1], EXPECTED, "begun by `[at_end]`") or {})
+        self.rules("", found, ("begun by `[always]`", "begun by `[at_end]`"))
 
 
 def mistakes(script, text):

@@ -3,9 +3,9 @@ what the facts don't have can't be judged, and that is a failure. It is installe
 from collections import namedtuple
 
 from shared import run_words
-from shared.scenarios.reading import HEARS, KEYS, PHASE, STATE, TONES_KEY
+from shared.scenarios.reading import ALWAYS, AT_END, HEARS, KEYS, PHASE, STATE, TONES_KEY
 
-ALWAYS, AT_END, DO, REPORT, STEPS = "always", "at_end", "do", "report", "steps"
+DO, REPORT, STEPS = "do", "report", "steps"
 UNTOLD = "the facts don't say who hears whom, so this can't be judged; a later mgexplain tells it"
 # What is wrong: by which key, the byte of the file at which that stands, what is said of it, and how many of the steps that were taken it is about.
 Flaw = namedtuple("Flaw", "rule at says count")
@@ -143,6 +143,6 @@ def reported(scenario, course, line):
     return Flaw(REPORT, scenario.report_at, f"the report is expected to be `{scenario.report}`, and is `{found}`", len(course.taken))
 
 
-def of_scenario(scenario, course, rules, table):
+def of_scenario(scenario, course, table):
     """What is wrong with a scenario as it stands, first of its steps, then of what holds at each; none where nothing is."""
-    return compared(scenario, course, table) or broken(rules, course.taken)
+    return compared(scenario, course, table) or broken(scenario.rules, course.taken)

@@ -20,22 +20,22 @@ def as_they_stand(runner, scenarios, tell):
     return settled(runner, [Course(runner.table, scenario.acts, True, False) for scenario in scenarios], tell)
 
 
-def plain(runner, scenarios, rules, tell):
+def plain(runner, scenarios, tell):
     """What scenarios come to as they stand. The reports are those of a plan that has no step more than what was done."""
     courses = as_they_stand(runner, scenarios, tell)
     reports = runner.told([course.exact() for course in courses]) if any(scenario.report is not None for scenario in scenarios) else [None] * len(courses)
     for scenario, course, lines in zip(scenarios, courses, reports):
-        flaw = judging.of_scenario(scenario, course, rules, runner.table)
+        flaw = judging.of_scenario(scenario, course, runner.table)
         if flaw is None and lines is not None:
             flaw = judging.reported(scenario, course, lines[-1])
         yield Outcome(scenario, flaw, None, None, None, course)
 
 
-def of_variants(scenario, found, rules, table):
+def of_variants(scenario, found, table):
     """What the variants of a scenario come to, each with its course."""
     first, failed = None, 0
     for variant, course in found:
-        flaw = judging.broken(rules, course.taken) or judging.ended(rules, course.taken, table)
+        flaw = judging.broken(scenario.rules, course.taken) or judging.ended(scenario.rules, course.taken, table)
         failed += flaw is not None
         if flaw is not None and first is None:
             first = (flaw, variant, course)
@@ -51,7 +51,7 @@ def begun(table, base, variant):
     return course
 
 
-def with_faults(runner, scenarios, rules, tell):
+def with_faults(runner, scenarios, tell):
     """What scenarios come to with each thing once going wrong. Of one that can't be done as it stands that is told."""
     table, bases = runner.table, as_they_stand(runner, scenarios, tell)
     tried = [[] if base.impossible or base.is_too_long else [*variants.of_course(base)] for base in bases]
@@ -59,4 +59,4 @@ def with_faults(runner, scenarios, rules, tell):
     runner.settle([course for pairs in found for _, course in pairs], tell)
     for scenario, base, pairs in zip(scenarios, bases, found):
         flaw = judging.undone(base, scenario)
-        yield Outcome(scenario, flaw, None, None, None, base) if flaw else of_variants(scenario, pairs, rules, table)
+        yield Outcome(scenario, flaw, None, None, None, base) if flaw else of_variants(scenario, pairs, table)

@@ -8,7 +8,7 @@ from shared.door import diagnostics, forms
 from shared.door.diagnostics import error
 from shared.door.junit import plain
 from shared.scenarios import intended, judging
-from shared.scenarios.written import step_text
+from shared.scenarios.written import own_rules, step_text
 
 FORMAT = 1
 
@@ -42,7 +42,7 @@ def ladder(outcome):
     return [ladder_words.columns("the call", "", "its gateway"), *rows]
 
 
-def to_paste(outcome, at_end):
+def to_paste(outcome):
     """A variant as a scenario of its own, up to what is wrong, with what has to be so at the end; in lines, and none of a scenario as it stands."""
     if outcome.variant is None:
         return []
@@ -54,8 +54,8 @@ def to_paste(outcome, at_end):
     name = f"{outcome.scenario.name}, {outcome.variant.name}".replace("`", "")
     lines = [step_text(each, None) for each in words.values()]
     if flaw.rule.startswith(judging.AT_END):
-        lines[-1:] = [step_text([*words.values()][-1], at_end)]
-    return ["[[scenario]]", f"name = {json.dumps(name)}", "steps = [", *(f"  {line}," for line in lines), "]"]
+        lines[-1:] = [step_text([*words.values()][-1], outcome.scenario.rules.at_end.values)]
+    return ["[[scenario]]", f"name = {json.dumps(name)}", *own_rules(outcome.scenario), "steps = [", *(f"  {line}," for line in lines), "]"]
 
 
 def headline(outcome):
@@ -70,25 +70,25 @@ def counts(outcomes, intents):
     return sum(outcome.count or 1 for outcome in outcomes) + len(intents) - failed, failed
 
 
-def lines_of(outcome, name, text, at_end):
+def lines_of(outcome, name, text):
     """The lines on a scenario."""
     yield headline(outcome)
     if outcome.flaw:
         yield diagnostics.line(diagnostic(outcome, name, text))
         yield from ("", *ladder(outcome), "")
-        if paste := to_paste(outcome, at_end):
+        if paste := to_paste(outcome):
             yield from ("  As a scenario of its own:", "", *paste, "")
 
 
-def as_text(outcomes, intents, name, text, at_end):
+def as_text(outcomes, intents, name, text):
     """All as lines."""
     passed, failed = counts(outcomes, intents)
-    lines = [line for outcome in outcomes for line in lines_of(outcome, name, text, at_end)]
+    lines = [line for outcome in outcomes for line in lines_of(outcome, name, text)]
     lines += [line for one in intents for line in intended.lines_of(one)]
     return "".join(f"{line}\n" for line in [*lines, f"{passed} passed, {failed} failed"])
 
 
-def record(outcome, name, text, at_end):
+def record(outcome, name, text):
     """What a scenario comes to as an object."""
     place = text.place(outcome.scenario.at)
     found = {"name": outcome.scenario.name, "at_line": place.line, "at_column": place.column, "outcome": "failed" if outcome.flaw else "passed"}
@@ -97,31 +97,31 @@ def record(outcome, name, text, at_end):
     if outcome.flaw:
         found |= {"diagnostic": forms.record(diagnostic(outcome, name, text)), "ladder": ladder(outcome)}
     if outcome.variant:
-        found |= {"variant": outcome.variant.name, "scenario": "\n".join(to_paste(outcome, at_end))}
+        found |= {"variant": outcome.variant.name, "scenario": "\n".join(to_paste(outcome))}
     return found
 
 
-def as_json(outcomes, intents, name, text, at_end):
+def as_json(outcomes, intents, name, text):
     """All as one JSON value."""
     passed, failed = counts(outcomes, intents)
     value = {"format": FORMAT, "status": int(failed > 0), "passed": passed, "failed": failed}
-    value |= {"scenarios": [record(outcome, name, text, at_end) for outcome in outcomes], "intents": [*map(intended.record, intents)], "diagnostics": []}
+    value |= {"scenarios": [record(outcome, name, text) for outcome in outcomes], "intents": [*map(intended.record, intents)], "diagnostics": []}
     return json.dumps(value, ensure_ascii=False) + "\n"
 
 
-def case(outcome, name, text, at_end):
+def case(outcome, name, text):
     """A scenario as a test of JUnit XML."""
     shown = f'<testcase classname="mgtool.test" name={quoteattr(plain(outcome.scenario.name))} file={quoteattr(plain(name))}>'
     if not outcome.flaw:
         return f"{shown}<system-out>{escape(plain(headline(outcome)))}</system-out></testcase>\n"
-    told, lines = diagnostic(outcome, name, text), "\n".join([*lines_of(outcome, name, text, at_end)])
+    told, lines = diagnostic(outcome, name, text), "\n".join([*lines_of(outcome, name, text)])
     failure = f"<failure type={quoteattr(told.rule)} message={quoteattr(plain(told.text))}>{escape(plain(lines))}</failure>"
     return f"{shown}{failure}<system-out>{escape(plain(headline(outcome)))}</system-out></testcase>\n"
 
 
-def as_junit(outcomes, intents, name, text, at_end):
+def as_junit(outcomes, intents, name, text):
     """All as JUnit XML, a test for each scenario and for the intents of each state."""
     failed = sum(bool(outcome.flaw) for outcome in outcomes) + sum(bool(one.told) for one in intents)
     head = f'tests="{len(outcomes) + len(intents)}" failures="{failed}" errors="0"'
-    cases = "".join([*(case(outcome, name, text, at_end) for outcome in outcomes), *(intended.case(one, name) for one in intents)])
+    cases = "".join([*(case(outcome, name, text) for outcome in outcomes), *(intended.case(one, name) for one in intents)])
     return f'<?xml version="1.0" encoding="UTF-8"?>\n<testsuites {head}>\n<testsuite name="mgtool.test" {head}>\n{cases}</testsuite>\n</testsuites>\n'

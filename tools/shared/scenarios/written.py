@@ -3,7 +3,7 @@ import json
 
 from shared.mistakes import toml_text
 from shared.scenarios import judging
-from shared.scenarios.reading import HEARS, PHASE, STATE, TONES_KEY
+from shared.scenarios.reading import ALWAYS, AT_END, HEARS, PHASE, STATE, TONES_KEY
 
 
 def text_of(value):
@@ -26,6 +26,20 @@ def values_text(values):
 def step_text(words, values):
     """A step with what is expected, which is none where nothing is, as TOML."""
     return f"{{ {', '.join([f'do = {text_of(words)}', *values_text(values or {})])} }}"
+
+
+def table_text(parts):
+    """Keys with their values as a table in braces."""
+    return f"{{ {', '.join(parts)} }}" if (parts := [*parts]) else "{}"
+
+
+def own_rules(scenario):
+    """What a scenario says itself of what has to hold, in lines of TOML."""
+    always, at_end = scenario.rules
+    if ALWAYS in scenario.own:
+        yield f"{ALWAYS} = {table_text(f'{key} = {json.dumps(judging.written_pairs(pairs))}' for key, (pairs, _) in always.items())}"
+    if AT_END in scenario.own:
+        yield f"{AT_END} = {table_text(values_text(at_end.values))}"
 
 
 def came(told):
