@@ -1,6 +1,8 @@
 """Trials of the certificate that `mgtool` keeps beside a script: when it is drafted, when it is drafted anew and from where, when it is left alone, and what
 stands there when the work ends before its end."""
+import contextlib
 import hashlib
+import io
 import os
 import pty
 import re
@@ -9,11 +11,13 @@ import subprocess
 import time
 from collections import namedtuple
 
-from shared.programs import TOP
+from shared import programs, progress
 
-HOTLINE = TOP / "gallery" / "hotline" / "script.toml"
+HOTLINE = programs.TOP / "gallery" / "hotline" / "script.toml"
 DRAFTED = re.compile(r"^(.*): drafted, (yes|no) .*, with (\d+) entr", re.MULTILINE)
 OWN = "it is taken as it stands"
+# The first line on a draft that takes its time, where standard error is no terminal; how long something is waited for, in seconds.
+FIRST, PATIENCE = re.compile(r"^  0:0[01]  drafting: 0 entries, 0 configurations put in\n", re.MULTILINE), 60
 # What a script of gallery/hotline is turned to, with what drafting anew comes to: how many configurations are put in into what stood there, or into nothing.
 TURNED = (
     ("a remark", lambda text: text + "# more\n", "yes after 0 edits"),
@@ -133,19 +137,93 @@ def of_terminal(folder):
     yield f"how far a draft has come: {said}", holds
 
 
+def of_lines():
+    """Where standard error is no terminal nothing is said of what is done at once, and a line of what takes longer."""
+    for seconds, wanted in ((0, ""), (progress.FIRST + 0.3, "  0:0[01]  at work\n")):
+        said = io.StringIO()
+        with contextlib.redirect_stderr(said), progress.line() as tell:
+            tell("at work")
+            time.sleep(seconds)
+        yield f"of {seconds} seconds of work: {said.getvalue()!r}", re.fullmatch(wanted, said.getvalue()) is not None
+
+
+def of_file(folder, slow):
+    """How far a draft has come stands in a file within the first second, however long its program takes."""
+    log = folder.script.parent / "log"
+    with open(log, "wb") as said:
+        work = subprocess.Popen([slow, "draft", folder.script, "-o", "-"], stdout=subprocess.DEVNULL, stderr=said)
+    found = comes(lambda: FIRST.search(log.read_text()) is not None)
+    work.terminate()
+    work.wait(PATIENCE)
+    yield f"how far a draft has come, in a file: {log.read_text()}", found
+
+
 def of_interruption(folder, slow):
     """A tool that is ended while it drafts, by a program that takes its time, leaves nothing by half, with the status of a shell."""
-    signal.signal(signal.SIGINT, signal.default_int_handler)
-    for number, status in ((signal.SIGTERM, 143), (signal.SIGINT, 130)):
-        work = subprocess.Popen([slow, "draft", folder.script, "-o", folder.certificate], stdout=subprocess.DEVNULL, stderr=subprocess.DEVNULL)
-        time.sleep(1)
-        work.send_signal(number)
-        yield f"ended by {number}: {folder.left()}", work.wait(60) == status and folder.left() == ["my.toml"]
+    single = [slow.with_name("mgcall-draft"), folder.script]
+    ends = {signal.SIGTERM: (143, -signal.SIGTERM), signal.SIGINT: (130, 130), signal.SIGHUP: (-signal.SIGHUP, -signal.SIGHUP)}
+    for number, statuses in ends.items():
+        for words, status in zip(([slow, "draft", folder.script], single), statuses):
+            with drafting(folder, words) as work:
+                begun = by_half(folder)
+                work.send_signal(number)
+                found, left = comes(lambda: work.poll() is not None) and work.returncode, folder.left()
+            yield f"{words[0].name} ended by {number}: {left}", (begun, found, left) == (True, status, ["my.toml"])
+
+
+def of_waiting(folder, slow):
+    """What is by half is gone at once too where programs that were asked side by side are waited for."""
+    program = slow.with_name("mgexplain")
+    asked = [program.with_name(f"mgexplain.{count}") for count in (1, 2)]
+    program.write_text(f'#!/bin/sh\nmkdir {asked[0]} 2>&- || mkdir {asked[1]} 2>&- || exec sleep 100\nexec {programs.program("mgexplain")} "$@"\n')
+    for number in (signal.SIGTERM, signal.SIGINT):
+        with drafting(folder, [slow, "draft", folder.script]) as work:
+            begun = by_half(folder) and comes(asked[1].exists)
+            time.sleep(2)
+            work.send_signal(number)
+            gone = comes(lambda: folder.left() == ["my.toml"])
+        yield f"ended by {number} while it waits: {folder.left()}", begun and gone
+        for place in asked:
+            place.rmdir()
+
+
+@contextlib.contextmanager
+def drafting(folder, words):
+    """A tool that drafts, and that heeds the signals which are ignored here, as in the background; it is ended with all that it started."""
+
+    def heeding():
+        for number in (signal.SIGINT, signal.SIGHUP):
+            signal.signal(number, signal.SIG_DFL)
+
+    how = {"stdout": subprocess.DEVNULL, "stderr": subprocess.DEVNULL, "start_new_session": True, "preexec_fn": heeding}
+    work = subprocess.Popen([*words, "-o", folder.certificate], **how)
+    try:
+        yield work
+    finally:
+        with contextlib.suppress(ProcessLookupError):
+            os.killpg(work.pid, signal.SIGKILL)
+        work.wait()
+
+
+def comes(holds):
+    """Whether something comes to hold within a while."""
+    end = time.monotonic() + PATIENCE
+    while not (found := holds()) and time.monotonic() < end:
+        time.sleep(0.05)
+    return found
+
+
+def by_half(folder):
+    """Whether a file comes to be there by half."""
+    return comes(lambda: any(name.endswith(".new") for name in folder.left()))
 
 
 def tried(tool, slow, top):
     """All trials, each with what is said where it fails."""
     for part in (of_first, of_own, of_streams, of_terminal):
         yield from part(Folder(tool, top / part.__name__))
+    yield from of_lines()
+    yield from of_file(Folder(tool, top / "logged"), slow)
     yield from of_stale(tool, top)
     yield from of_interruption(Folder(tool, top / "interrupted"), slow)
+    yield from of_waiting(Folder(tool, top / "waiting"), slow)

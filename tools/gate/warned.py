@@ -4,7 +4,7 @@ hand. With `--strict` a yes with a warning has status 1, and all else has the st
 import json
 import tomllib
 
-from gate import plain_drafts, told_words
+from gate import lifted, plain_drafts, told_words
 from gate.told_runs import DIVIDER, TOP
 from gate.told_words import asked
 
@@ -54,6 +54,18 @@ MIDDLES = (
     ("a way out", 'timer = "rearm"', [MIDDLE_NOTE, MIDDLE_NOTE]),
     ("a way out by each line", 'timer = "rearm"\non.a.of = "rearm"\non.b.of = "rearm"', []),
 )
+# Two telephones whose call waits until both are put down, whatever is lifted again meanwhile, also after a restart.
+WAITING = (TOP / "tests" / "mgtool" / "waiting" / "script.toml").read_text()
+# The same with something else in it, and what is warned of receivers that stay lifted: the word, the state and the line. In `wait` and in `b_down` a is lifted
+# with the list that it was given in `wait`. A bell is no tone for who has lifted.
+SILENT = [("lifted_in_silence", "wait", "a"), ("lifted_in_silence", "b_down", "a")]
+RECEIVERS = (
+    ("all are put down", "", "", []),
+    ("an end while a is lifted", 'on.b.on = "b_down"', 'on.b.on = "rearm"', [("lifted_at_end", "done", "a")]),
+    ("a list without events", "modify - a events=hang", "modify - a events=none", SILENT),
+    ("a list without events, and a tone", "modify - a events=hang", "modify - a events=none signals=busy", []),
+    ("a list without events, and a bell", "modify - a events=hang", "modify - a events=none signals=bell", SILENT),
+)
 # Certificates: the name, the entries with which the story's own begin and end, and what is warned of: its word, the entry, its point and the other entry.
 IDLE = {"state": "idle", "link": ["rest"], "lines": {"gate": {"events": ["none"]}}}
 WIDE_IDLE = {"state": "idle", "link": ["rest"], "lines": {"gate": {"events": ["none", "armed"]}}}
@@ -68,7 +80,8 @@ ENTRIES = (
     ("held where no call comes", [], [IDLE, WIDE_IDLE],
      [("entry_held", 0, None, 16), ("entry_held", 15, None, 16), ("entry_unreached", 15, None, None), ("point_unreached", 16, 0, None)]),
 )
-# Patterns of gallery/patterns: what is warned of in states where they aren't followed, notes that come to nothing apart; where they are, nothing is.
+# Patterns of gallery/patterns: what is warned of in states where they aren't followed, but for notes that come to nothing and receivers that stay lifted; where
+# they are, nothing is.
 PATTERNS = {
     "end_marked": {"state_never_left", "cannot_be_moved", "cannot_end"},
     "armed_for": {"arrow_unused", "state_unlisted"},
@@ -104,12 +117,12 @@ def status_wrong(program, data, page):
             yield f"status {status} with {' '.join(words)}, and not {wanted}, or another value"
 
 
-def wrong(program, data, facts, wanted):
-    """What is wrong with what is warned of."""
+def wrong(program, data, facts, wanted, of_receivers=False):
+    """What is wrong with what is warned of: of receivers that stay lifted, or of all else."""
     page = told_words.facts(program, data)[1]
     if not page["line"].startswith("yes "):
         yield page["line"]
-    told = [facts(warning) for warning in page.get("warnings", [])]
+    told = [facts(warning) for warning in page.get("warnings", []) if (warning["warning"] in lifted.WARNINGS) == of_receivers]
     if sorted(told, key=str) != sorted(wanted, key=str):
         yield f"{told}, and not {wanted}"
     yield from status_wrong(program, data, page)
@@ -121,13 +134,17 @@ def patterns(program):
         for folder in sorted((TOP / "gallery" / "patterns" / name).iterdir()):
             script, certificate = ((folder / file).read_bytes() for file in ("script.toml", "certificate.json"))
             page = told_words.facts(program, script + DIVIDER + certificate)[1]
-            told = {warning["warning"] for warning in page.get("warnings", []) if "state" in warning} - {"note_swallowed"}
+            told = {warning["warning"] for warning in page.get("warnings", []) if "state" in warning} - {"note_swallowed", *lifted.WARNINGS}
             wanted = unfollowed if folder.name == "without" else set()
             yield f"warnings: {name} {folder.name}", [] if told == wanted else [f"{told}, and not {wanted}"]
 
 
 def of_state(warning):
     return warning["warning"], warning.get("state")
+
+
+def of_receiver(warning):
+    return warning["warning"], warning.get("state"), *warning.get("names", [])
 
 
 def of_entry(warning):
@@ -148,6 +165,9 @@ def judged(program):
     for name, script, wanted in scripts():
         data = joined(script, drafted(program, script))
         yield f"warnings: {name}", [*wrong(program, data, of_state, wanted)]
+    for name, old, new, wanted in RECEIVERS:
+        script = WAITING.replace(old, new, 1) if old else WAITING
+        yield f"warnings: {name}", [*wrong(program, joined(script, drafted(program, script)), of_receiver, wanted, True)]
     script, own = (STORY / "script.toml").read_text(), json.loads((STORY / "certificate.json").read_text())["entries"]
     for name, first, last, wanted in ENTRIES:
         yield f"warnings: {name}", [*wrong(program, joined(script, [*first, *own, *last]), of_entry, wanted)]
