@@ -16,6 +16,8 @@ from shared import programs, progress
 HOTLINE = programs.TOP / "gallery" / "hotline" / "script.toml"
 DRAFTED = re.compile(r"^(.*): drafted, (yes|no) .*, with (\d+) entr", re.MULTILINE)
 OWN = "it is taken as it stands"
+# The lines on how far a draft has come, which stand there where the machine is slow.
+LATER = re.compile(r"^ *\d+:\d\d  drafting: .*\n", re.MULTILINE)
 # The first line on a draft that takes its time, where standard error is no terminal; how long something is waited for, in seconds.
 FIRST, PATIENCE = re.compile(r"^  0:0[01]  drafting: 0 entries, 0 configurations put in\n", re.MULTILINE), 60
 # What a script of gallery/hotline is turned to, with what drafting anew comes to: how many configurations are put in into what stood there, or into nothing.
@@ -42,7 +44,7 @@ class Folder:
         """What calling the tool comes to."""
         result = subprocess.run([self.tool, *words], capture_output=True, text=True, timeout=600, check=False, **how)
         texts = [path.read_text() if path.is_file() else None for path in (self.certificate, self.digest)]
-        return Seen(result.returncode, result.stdout, result.stderr, *texts)
+        return Seen(result.returncode, result.stdout, LATER.sub("", result.stderr), *texts)
 
     def check(self):
         """The check of the script."""
