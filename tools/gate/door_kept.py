@@ -65,7 +65,7 @@ def of_first(folder):
     seen = folder.check()
     drafted = DRAFTED.search(seen.error)
     says = drafted is not None and drafted[1] == str(folder.certificate) and drafted[0].count("yes after 33 edits") == 1
-    yield f"a draft: {seen.error}", seen.status == 0 and seen.output == "yes 6 21 33\n" and says
+    yield f"a draft: {seen.error}", seen.status == 0 and seen.output.endswith("yes 6 21 33\n") and says
     yield "its checksums", seen.digest == checksums(folder)
     yield "what stands there", folder.left() == ["my.certificate.digest", "my.certificate.json", "my.toml"]
     again = folder.check()
@@ -105,17 +105,17 @@ def of_own(folder):
     alone = folder.check()
     yield "without checksums", alone.status == 1 and OWN in alone.error and alone.digest is None
     folder.certificate.unlink()
-    yield "taken away", folder.check().output == "yes 6 21 33\n"
+    yield "taken away", folder.check().output.endswith("yes 6 21 33\n")
 
 
 def of_streams(folder):
     """A script on standard input keeps nothing; a certificate there is taken; a folder that can't be written to is no hindrance."""
     text = folder.script.read_text()
     seen = folder.told("check", "-", input=text)
-    yield f"a script on standard input: {seen.error}", (seen.status, seen.output) == (0, "yes 6 21 33\n") and seen.certificate is None
+    yield f"a script on standard input: {seen.error}", seen.status == 0 and seen.output.endswith("yes 6 21 33\n") and seen.certificate is None
     stored = (HOTLINE.parent / "certificate.json").read_text()
     seen = folder.told("check", str(folder.script), "--certificate", "-", input=stored)
-    yield "a certificate on standard input", (seen.status, seen.output) == (0, "yes 6 15 33\n") and seen.certificate is None
+    yield "a certificate on standard input", seen.status == 0 and seen.output.endswith("yes 6 15 33\n") and seen.certificate is None
     seen = folder.told("draft", str(folder.script), "-o", "-")
     yield "a draft to standard output", seen.status == 0 and seen.output.startswith('{"version":2') and seen.certificate is None
     kept = folder.told("draft", str(folder.script))
