@@ -9,7 +9,7 @@ UNWARNED = (
     "Calls come to each point and use each transition and mark, each line is heard wherever a call rests, no note is swallowed but in the start state, "
     "no command is left out or refused each time, and each call can be moved on and be brought to its end."
 )
-PUT_DOWN = "Where people act at rest and notes come at once, no call ends with a receiver lifted, and none rests with one at which nothing is heard."
+PUT_DOWN = "Where nothing goes wrong no call ends with a receiver lifted, and none rests but in the start state with one that hears nothing and can do nothing."
 WARNINGS = {
     "state_unlisted": "no entry is of it, so no call comes to it.",
     "state_never_left": "calls come to it and none ends in it, and no step leads to another state.",
