@@ -1,6 +1,6 @@
 //! The descriptors that a script's names stand for (H.248.1 sections 7.1.9, 7.1.11 and 7.1.14).
 ghost use Rattle.std.specs.Prelude.{◌≡◌, IfOk, None, map, option_map};
-ghost use Rattle.mg_model.specs.ListContents.{list_item, list_of, same_signal, names_signal, set_of};
+ghost use Rattle.mg_model.specs.ListContents.{list_item, list_of, set_of};
 
 use digits::DigitMap;
 use line_events::{EventList, ListItem};
@@ -8,7 +8,6 @@ use mg_model::commands::{EventsName, LineOptions, SignalsName};
 use mg_model::line_events::SignalSet;
 use mg_model::references::SettingsRef;
 use mg_model::transitions::EventItem;
-use mg_names::signals::Signal;
 use requests::LineDescriptors;
 use script_table::Script;
 use std::alloc::{AllocError, Global};
@@ -56,34 +55,6 @@ pub(crate) fn events(
     Ok(EventList::new(items))
 }
 
-/// Whether two signals are one.
-fn is_same(signal: Signal, other: Signal) -> bool
-    ensures { result ≡ same_signal signal other }
-{
-    signal == other
-}
-
-/// Whether signals name this one.
-fn has(signals: &[Signal], signal: Signal) -> bool
-    ensures { result ≡ names_signal signals.now signal }
-{
-    signals.iter().any(|other| is_same(signal, *other))
-}
-
-/// The set of a Signals descriptor that a name stands for.
-pub(crate) fn signals(script: &Script, name: SignalsName) -> SignalSet
-    ensures { result ≡ set_of script.now name }
-{
-    let signals = script.signals(name);
-    SignalSet {
-        ring: has(signals, Signal::Ring),
-        dial_tone: has(signals, Signal::DialTone),
-        ringing_tone: has(signals, Signal::RingingTone),
-        busy_tone: has(signals, Signal::BusyTone),
-        congestion_tone: has(signals, Signal::CongestionTone),
-    }
-}
-
 /// The list of an Events descriptor, where a command has one.
 fn events_given(
     alloc: Global,
@@ -103,7 +74,7 @@ fn signals_given(script: &Script, name: Option<SignalsName>) -> Option<SignalSet
     ensures { result ≡ option_map (set_of script.now) name }
 {
     match name {
-        Some(name) => Some(signals(script, name)),
+        Some(name) => Some(script.signal_set(name)),
         None => None,
     }
 }

@@ -4,14 +4,13 @@
 -- obligation and says of every run of the script that it is good.
 use Rattle.std.specs.Prelude.{ℕ, List, Ok, Err}
 use Rattle.std.specs.List.{All}
-use Rattle.mg_model.specs.Accepted.{IsEntryOf, IsScript}
+use Rattle.mg_model.specs.Accepted.{HasFewCommands, IsEntryOf, IsScript}
 use Rattle.mg_model.specs.Script.{Script}
 use Rattle.mg_model.specs.Entries.{Entry, HavePoints}
 use Rattle.mg_model.specs.Obligations.{NoneBroken}
 use Rattle.mg_model.specs.declared.faults.Fault.{Fault}
 use Rattle.mg_safety.specs.Headline.{RunsAreGood}
 use Rattle.scriptreader.specs.declared.fault.ScriptFault.{ScriptFault}
-use Rattle.scriptreader.specs.Laws.{HasFewCommands}
 use Rattle.scriptreader.specs.Reading.{ReadsScript}
 use Rattle.certificate.specs.declared.fault.CertFault.{CertFault}
 use Rattle.certificate.specs.Certificate.{ReadsCertificate}

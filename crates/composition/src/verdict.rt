@@ -1,10 +1,9 @@
 //! The verdict on a script and a certificate. A `Yes` can be made in no other way than by `check` and `check_par`.
 ghost use Rattle.std.specs.Prelude.{◌≡◌, length};
-ghost use Rattle.mg_model.specs.Accepted.{IsScript};
+ghost use Rattle.mg_model.specs.Accepted.{HasFewCommands, IsScript};
 ghost use Rattle.mg_model.specs.Obligations.{IsFirstFault};
 ghost use Rattle.mg_safety.specs.Headline.{RunsAreGood};
 ghost use Rattle.closure.specs.Answer.{IsFinding};
-ghost use Rattle.scriptreader.specs.Laws.{HasFewCommands};
 ghost use Rattle.composition.specs.Faults.{name_of, number_of};
 ghost use Rattle.composition.specs.Verdict.{AreAccepted, IsChecked};
 ghost use Rattle.composition.specs.Verdicts.{IsReading, IsVerdict, IsVerdictOn, YesIsSafe};

@@ -6,7 +6,7 @@ use Rattle.mg_model.specs.declared.events.CallEvent.{CallEvent}
 use Rattle.mg_model.specs.declared.events.CallEvent.TheVariants as to_call
 use Rattle.mg_model.specs.declared.events.Event.{Event}
 use Rattle.mg_model.specs.declared.events.Event.TheVariants.{OfCall, Restart}
-use Rattle.mg_model.specs.Accepted.{IsScript, IsEntryOf}
+use Rattle.mg_model.specs.Accepted.{HasFewCommands, IsEntryOf, IsScript, most_commands}
 use Rattle.mg_model.specs.Agent.{Agent}
 use Rattle.mg_model.specs.Entries.{Entry}
 use Rattle.mg_model.specs.Items.{is_context_number, is_ephemeral_number}
@@ -14,7 +14,7 @@ use Rattle.mg_model.specs.Obligations.{NoneBroken}
 use Rattle.mg_model.specs.Script.{Script}
 use Rattle.mg_model.specs.Shards.{AreLeft, HasIdentifiersLeft, RunsWithin}
 use Rattle.mg_model.specs.World.{World, Opened, IsOpening, Occurs, Runs}
-use Rattle.mg_merge.specs.Identifiers.{HasFewCommands, most_commands, most_shards}
+use Rattle.mg_merge.specs.Identifiers.{most_shards}
 use Rattle.mg_alike.specs.Worlds.{TreatAlike}
 
 -- of a history the events of one call, and the restarts

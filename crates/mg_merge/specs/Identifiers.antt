@@ -1,18 +1,14 @@
 -- The statements of the laws that identifiers last, each of which an empty function carries: a run of as many executes as a plan may have goes as a shard's
 -- run has to, and identifiers are left at its end too. A reader should check the numbers, and that what they ask of the class is what each of up to sixteen
 -- shards has.
-use Rattle.std.specs.Prelude.{◌≡◌, ℕ, ◌+◌, ◌%◌, ◌<◌, ◌≤◌, IsTrue, List, [], ◌∷◌, length}
-use Rattle.std.specs.List.{All}
+use Rattle.std.specs.Prelude.{◌≡◌, ℕ, ◌+◌, ◌%◌, ◌<◌, ◌≤◌, IsTrue, List, [], ◌∷◌}
 use Rattle.mg_model.specs.declared.events.CallEvent.TheVariants as to_call
 use Rattle.mg_model.specs.declared.events.Event.{Event}
 use Rattle.mg_model.specs.declared.events.Event.TheVariants.{OfCall}
-use Rattle.mg_model.specs.Script.{Script, State}
+use Rattle.mg_model.specs.Accepted.{HasFewCommands}
+use Rattle.mg_model.specs.Script.{Script}
 use Rattle.mg_model.specs.Shards.{HasIdentifiersLeft, RunsWithin}
 use Rattle.mg_model.specs.World.{World, Opened, Runs, IsOpening}
-
--- the most commands that a state of a script has
-abbrev pub most_commands : ℕ
-most_commands = 16
 
 -- the most shards that share the identifiers
 abbrev pub most_shards : ℕ
@@ -31,9 +27,6 @@ executes_of event = 0
 unfoldable pub executes_in : List Event → ℕ
 executes_in [] = 0
 executes_in (event ∷ more) = executes_of event + executes_in more
-
-abbrev pub HasFewCommands : Script → Type 0
-HasFewCommands script = All (λ (state : State). length state.commands ≤ most_commands) script.states
 
 -- where no state has more commands, and the gateway gives each number of one class, each run from an opening that has no more executes
 -- than a plan may have is a run in which identifiers are left before each event

@@ -74,6 +74,14 @@ pub record IsScript (script : Script) : Type 0 where
   pub contexts : length script.contexts ≤ 4
   pub states : All (IsStateOf script) script.states
 
+-- the most commands of a state
+abbrev pub most_commands : ℕ
+most_commands = 16
+
+-- no state has more
+abbrev pub HasFewCommands : Script → Type 0
+HasFewCommands script = All (λ (state : State). length state.commands ≤ most_commands) script.states
+
 -- ---- certificates
 
 -- the component of an entry that lists a thing of a configuration

@@ -1,8 +1,8 @@
 -- A plan has one report, call by call; and where no step is a `restart`, no call has restarts of others.
+use Rattle.mg_model.specs.Accepted.{HasFewCommands}
 use Rattle.std.proofs.Common.{◌≡◌, ◌∙◌, ◌+◌, ℕ, List, [], ◌∷◌, refl, ap, subst, arith, Contains}
 use Rattle.mg_merge.proofs.Words.{All, AreReported, Entry, IsEntryOf, IsReported, IsScript, NoneBroken, Plan, PlanCall, PlanStep, ReportLine, Restarts, Script}
 use Rattle.mg_merge.proofs.Words.{epochs_of, first_in, later_in, opened_as, restarts_among, restarts_asked, restarts_of_all, restarts_of_others, steps_in}
-use Rattle.mg_alike.proofs.Words.{HasFewCommands}
 use Rattle.mg_reports.proofs.Runs.{one_alone}
 use Rattle.mg_reports.specs.OneReport.{OneReport, PlansWithoutRestartSteps}
 

@@ -1,8 +1,9 @@
 -- Two runs of a call alone by the same steps tell the same lines.
+use Rattle.mg_model.specs.Accepted.{HasFewCommands}
 use Rattle.std.proofs.Common.{◌≡◌, ◌∙◌, ◌++◌, ℕ, Bool, true, List, [], ◌∷◌, Some, refl, sym, ap, subst, arith, IsTrue, Contains}
 use Rattle.mg_merge.proofs.Words.{Agent, All, Entry, Event, HasIdentifiersLeft, IsEntryOf, IsOpening, IsScript, NoneBroken, Opened, PlanStep, Progress}
 use Rattle.mg_merge.proofs.Words.{ReportLine, Runs, Script, StepsRun, World, line_now, only_here, only_one, start_as, the_some}
-use Rattle.mg_alike.proofs.Words.{HasEnoughNumbers, HasFewCommands}
+use Rattle.mg_alike.proofs.Words.{HasEnoughNumbers}
 use Rattle.mg_reports.proofs.Placings.{one_placing}
 use Rattle.mg_alike.proofs.Alone.Enough.{classes_enough, never_run_out}
 use Rattle.mg_reports.proofs.Along.{AreAlong, along, next_step}

@@ -5,7 +5,7 @@ use Rattle.std.specs.List.{All}
 use Rattle.mg_model.specs.declared.events.Event.{Event}
 use Rattle.mg_model.specs.declared.events.Event.TheVariants.{OfCall, Restart}
 use Rattle.mg_model.specs.declared.plans.PlanStep.{PlanStep}
-use Rattle.mg_model.specs.Accepted.{IsScript, IsEntryOf}
+use Rattle.mg_model.specs.Accepted.{HasFewCommands, IsEntryOf, IsScript}
 use Rattle.mg_model.specs.Agent.{Agent}
 use Rattle.mg_model.specs.Entries.{Entry}
 use Rattle.mg_model.specs.Numbers.{plan_calls}
@@ -14,7 +14,6 @@ use Rattle.mg_model.specs.Reports.{IsReported, Progress, StepHappens, StepIsIdle
 use Rattle.mg_model.specs.Script.{Script}
 use Rattle.mg_model.specs.Shards.{HasIdentifiersLeft}
 use Rattle.mg_model.specs.World.{World, Opened, IsOpening, Occurs}
-use Rattle.mg_merge.specs.Identifiers.{HasFewCommands}
 
 -- what comes next on the gateway: a step of the call, or an event that is none of its own steps
 pub data Turn : Type 0 where

@@ -6,7 +6,7 @@ use Rattle.mg_model.specs.declared.events.Event.{Event}
 use Rattle.mg_model.specs.declared.events.Event.TheVariants.{Restart}
 use Rattle.mg_model.specs.declared.plans.PlanStep.{PlanStep}
 use Rattle.mg_model.specs.declared.plans.PlanStep.TheVariants.{Begins, Restarts}
-use Rattle.mg_model.specs.Accepted.{IsScript, IsEntryOf}
+use Rattle.mg_model.specs.Accepted.{HasFewCommands, IsEntryOf, IsScript}
 use Rattle.mg_model.specs.Agent.{Agent}
 use Rattle.mg_model.specs.Entries.{Entry}
 use Rattle.mg_model.specs.Numbers.{plan_calls}
@@ -17,7 +17,6 @@ use Rattle.mg_model.specs.Script.{Script}
 use Rattle.mg_model.specs.Shards.{HasIdentifiersLeft}
 use Rattle.mg_model.specs.Tables.{state_of}
 use Rattle.mg_model.specs.World.{World, Opened, IsOpening, Occurs}
-use Rattle.mg_merge.specs.Identifiers.{HasFewCommands}
 
 -- an entry of the log: a step other than a restart of a call of the plan, in which state the call was that stood, and the event that it was, none where it was
 -- idle; the end of an epoch of all calls, at which the gateway restarts; or a restart that some call of the plan asked for, on this gateway or on another one

@@ -4,14 +4,13 @@ use Rattle.std.specs.Prelude.{◌≡◌, List, Contains}
 use Rattle.std.specs.List.{All}
 use Rattle.mg_model.specs.declared.plans.PlanStep.{PlanStep}
 use Rattle.mg_model.specs.declared.plans.PlanStep.TheVariants.{Restarts}
-use Rattle.mg_model.specs.Accepted.{IsScript, IsEntryOf}
+use Rattle.mg_model.specs.Accepted.{HasFewCommands, IsEntryOf, IsScript}
 use Rattle.mg_model.specs.Entries.{Entry}
 use Rattle.mg_model.specs.Obligations.{NoneBroken}
 use Rattle.mg_model.specs.Plans.{Plan, PlanCall, restarts_of_others}
 use Rattle.mg_model.specs.Reports.{IsReport, IsReported, ReportLine}
 use Rattle.mg_model.specs.Script.{Script}
 use Rattle.mg_model.specs.World.{Opened}
-use Rattle.mg_merge.specs.Identifiers.{HasFewCommands}
 
 -- two reports of a call by the same steps, with no restart of another call among them, are one
 abbrev pub OneReportAlone : Type 0

@@ -11,14 +11,14 @@ use Rattle.mg_model.specs.declared.commands.Command.{Command}
 use Rattle.mg_model.specs.declared.events.Event.{Event}
 use Rattle.mg_model.specs.declared.steps.StepName.{StepName}
 use Rattle.mg_model.specs.declared.steps.StepName.TheVariants.{Refuse, Execute, Reply, Observe, Timer}
-use Rattle.mg_model.specs.Accepted.{IsScript, IsEntryOf}
+use Rattle.mg_model.specs.Accepted.{HasFewCommands, IsEntryOf, IsScript, most_commands}
 use Rattle.mg_model.specs.Agent.{Agent}
 use Rattle.mg_model.specs.Configuration.{Configuration}
 use Rattle.mg_model.specs.Effects.{is_legal, effect}
 use Rattle.mg_model.specs.Entries.{Entry, IsCovered}
 use Rattle.mg_model.specs.Numbers.{last_number}
 use Rattle.mg_model.specs.Obligations.{NoneBroken}
-use Rattle.mg_model.specs.Script.{Script, State}
+use Rattle.mg_model.specs.Script.{Script}
 use Rattle.mg_model.specs.Shards.{AreLeft, IsContextLeft, IsEphemeralLeft}
 use Rattle.mg_model.specs.Steps.{request_in, steps_of, with_link}
 use Rattle.mg_model.specs.Tables.{state_of}
@@ -84,15 +84,8 @@ CanEnd script c = (way : List Configuration) × Brings script way c
 
 -- ---- what that is worth in a world
 
--- a request has at most this many commands, of which each creates at most one context and one ephemeral and raises at most one note
-abbrev pub most_commands : ℕ
-most_commands = 16
-
--- so it is with each state of a script that a reader accepts
-abbrev pub HasFewCommands : Script → Type 0
-HasFewCommands script = All (λ (state : State). length state.commands ≤ most_commands) script.states
-
--- numbers are left for so many moves: for the commands of a request each, a transaction, and two notes of a receiver
+-- numbers are left for so many moves: for the commands of a request, each of which creates at most one context and one ephemeral and raises at most one note,
+-- a transaction, and two notes of a receiver
 pub record NumbersLast (w : World) (call : ℕ) (a : Agent) (moves : ℕ) : Type 0 where
   pub contexts : AreLeft (IsContextLeft w.gateway.board) (most_commands * moves)
   pub ephemerals : AreLeft (IsEphemeralLeft w.gateway.board) (most_commands * moves)

@@ -2,10 +2,10 @@
 -- many commands as are written.
 use Rattle.std.proofs.Common.{◌≡◌, ◌≤◌, ℕ, List, [], ◌∷◌, length, false, nat_lt, sym, subst, Some, None}
 use Rattle.std.specs.Prelude.{Ok}
+use Rattle.mg_model.specs.Accepted.{HasFewCommands}
 use Rattle.mg_model.specs.Script.{Script, State}
 use Rattle.scriptreader.specs.DeclaredNames.{Scope, scope_of}
 use Rattle.scriptreader.specs.Faults.{fault_of}
-use Rattle.scriptreader.specs.Laws.{HasFewCommands}
 use Rattle.scriptreader.specs.Meaning.{number_for, command_for, pair_for, transition_for, state_for, events_list_for, named_map_for, state_at, script_in, script_meant}
 use Rattle.scriptreader.specs.Reading.{ReadsScript}
 use Rattle.scriptreader.specs.Written as document

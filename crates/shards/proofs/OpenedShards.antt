@@ -13,10 +13,9 @@ use Rattle.mg_model.specs.Gateway.{Gateway}
 use Rattle.mg_model.specs.Messages.{Request}
 use Rattle.mg_model.specs.Script.{Script}
 use Rattle.mg_model.specs.World.{IsOpening, Opened, Runs, World, sent_in}
-use Rattle.mg_model.specs.Accepted.{IsScript}
+use Rattle.mg_model.specs.Accepted.{HasFewCommands, IsScript}
 use Rattle.mg_merge.specs.Identifiers.{most_shards}
 use Rattle.mg_safety.specs.Headline.{RunsAreGood}
-use Rattle.scriptreader.specs.Laws.{HasFewCommands}
 use Rattle.gateway.specs.GatewayValue.{GatewayValue, gateway_of, is_open}
 use Rattle.gateway.specs.Openings.{first_gateway}
 use Rattle.agent.specs.AgentValue.{agent_of}

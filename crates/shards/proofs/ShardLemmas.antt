@@ -8,10 +8,9 @@ use Rattle.mg_model.specs.World.{World, Occurs, IsOpening, Runs, is_of_call}
 use Rattle.mg_safety.proofs.Messages.NamedMessages.{opening_numbered, runs_numbered}
 use Rattle.mg_safety.proofs.Messages.NumberedWorlds.{IsNumbered}
 use Rattle.mg_model.specs.Gateway.{Gateway}
-use Rattle.mg_model.specs.Accepted.{IsScript}
+use Rattle.mg_model.specs.Accepted.{HasFewCommands, IsScript}
 use Rattle.mg_merge.specs.Identifiers.{most_shards}
 use Rattle.mg_safety.specs.Headline.{RunsAreGood}
-use Rattle.scriptreader.specs.Laws.{HasFewCommands}
 use Rattle.gateway.specs.Answers.{IsNext}
 use Rattle.gateway.specs.GatewayValue.{GatewayValue, gateway_of}
 use Rattle.shards.proofs.ShownRestarts.{restart_shown}

@@ -10,10 +10,9 @@ use Rattle.mg_model.specs.declared.events.Event.TheVariants.{OfCall, Restart}
 use Rattle.mg_model.specs.Numbers.{last_association}
 use Rattle.mg_model.specs.Script.{Script}
 use Rattle.mg_model.specs.World.{World, IsOpening, Occurs, Opened, Runs, is_of_call}
-use Rattle.mg_model.specs.Accepted.{IsScript}
+use Rattle.mg_model.specs.Accepted.{HasFewCommands, IsScript}
 use Rattle.mg_merge.specs.Identifiers.{most_shards}
 use Rattle.mg_safety.specs.Headline.{RunsAreGood}
-use Rattle.scriptreader.specs.Laws.{HasFewCommands}
 use Rattle.gateway.specs.GatewayValue.{GatewayValue, gateway_of, is_open}
 use Rattle.shards.specs.Shows.{Shows}
 use Rattle.shards.specs.CallTable.{record_in}

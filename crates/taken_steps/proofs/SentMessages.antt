@@ -9,6 +9,7 @@ use Rattle.mg_model.specs.declared.events.Event.{Event}
 use Rattle.mg_model.specs.declared.events.Event.TheVariants.{OfCall, Restart}
 use Rattle.mg_model.specs.declared.failures.ChosenRefusal.{ChosenRefusal}
 use Rattle.mg_model.specs.declared.line_events.LineEvent.{LineEvent}
+use Rattle.mg_model.specs.Accepted.{HasFewCommands, most_commands}
 use Rattle.mg_model.specs.Agent.{Agent, Phase, awaits_reply, heard, noted, opened, passed, replied, timed}
 use Rattle.mg_model.specs.Gateway.{CallLink, Gateway, notes_from, reply_of}
 use Rattle.mg_model.specs.LineEvents.{Note}
@@ -17,7 +18,6 @@ use Rattle.mg_model.specs.Script.{Script}
 use Rattle.mg_model.specs.Tables.{line_places}
 use Rattle.mg_model.specs.World.{AgentSteps, Begins, Executes, IsOpening, LineOccurs, Occurs, OccursTo, Opened, Runs, World, sent_in}
 use Rattle.gateway.proofs.NoteLemmas.{notes_at_most}
-use Rattle.mg_merge.specs.Identifiers.{HasFewCommands, most_commands}
 use Rattle.mg_merge.proofs.Identifiers.FewCommands.{GivesShort, IsShort, heard_short, noted_short, passed_short, replied_short, timed_short}
 use Rattle.mg_safety.proofs.Agents.AgentSteps.{stepped_agent}
 use Rattle.mg_safety.proofs.Events.Handover.{agent_from}

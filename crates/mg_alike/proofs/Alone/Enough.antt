@@ -6,7 +6,8 @@ use Rattle.mg_merge.proofs.Words.{Agent, AreLeft, Board, Contains-append_left, C
 use Rattle.mg_merge.proofs.Words.{IsEphemeralLeft, IsScript, IsSettled, Line, Row, Script, TermId, Termination, World, cases_lt, choose, eq-eqb, exists}
 use Rattle.mg_merge.proofs.Words.{false_from_ne_true, first_in, first_or_later, is_context_number, is_ephemeral_number, later_in, none_in, place_in, place_of}
 use Rattle.mg_merge.proofs.Words.{the_line, the_some}
-use Rattle.mg_alike.proofs.Words.{CallsAloneNeverRunOut, ClassesGiveEnough, HasEnoughNumbers, most_commands, most_in_use, most_shards}
+use Rattle.mg_alike.proofs.Words.{CallsAloneNeverRunOut, ClassesGiveEnough, HasEnoughNumbers, most_in_use, most_shards}
+use Rattle.mg_model.specs.Accepted.{most_commands}
 use Rattle.mg_model.specs.Entries.{IsCovered}
 use Rattle.mg_model.specs.declared.commands.Termination.TheVariants as termination
 use Rattle.mg_merge.proofs.Commands.IdentifiersLeft.{one_taken, passed_on}

@@ -2,8 +2,9 @@
 use Rattle.std.proofs.Common.{◌≡◌, ◌∙◌, ℕ, Bool, true, false, List, [], ◌∷◌, Option, Some, None, refl, sym, ap, ◌==◌, if◌then◌else◌}
 use Rattle.mg_merge.proofs.Words.{Agent, All, Begins, CallEvent, CallNo, Entry, Event, Gateway, HasIdentifiersLeft, IsEntryOf, IsOpening, IsScript, NoneBroken}
 use Rattle.mg_merge.proofs.Words.{OccursTo, Opened, Runs, Script, World, eq-eqb, eqb-true, false_from_ne_true, false_not_true, none_is_some, not_both}
-use Rattle.mg_alike.proofs.Words.{HasEnoughNumbers, HasFewCommands, IsBeginning, IsRetiredBy, TreatAlike, begins_on}
+use Rattle.mg_alike.proofs.Words.{HasEnoughNumbers, IsBeginning, IsRetiredBy, TreatAlike, begins_on}
 use Rattle.mg_model.specs.declared.events.CallEvent.TheVariants as to_call
+use Rattle.mg_model.specs.Accepted.{HasFewCommands}
 use Rattle.mg_alike.proofs.Alone.Enough.{never_run_out}
 use Rattle.mg_alike.proofs.Alone.OneCall.{IsLone, opening_lone, runs_lone}
 use Rattle.mg_alike.proofs.Events.Alone.{execute_retired, steps_retired}

@@ -6,8 +6,8 @@ use Rattle.mg_merge.proofs.Words.{Agent, AgentSteps, Begins, Board, CallEvent, C
 use Rattle.mg_merge.proofs.Words.{IsOpening, Occurs, OccursTo, OfCall, Opened, Request, RequestCommand, Restart, Running, Runs, RunsFrom, Script, World, at_one}
 use Rattle.mg_merge.proofs.Words.{begun, eqb-false, eqb-true, heard, item_at, line_places, none_in, none_is_some, noted, only_here, only_one, opened, passed}
 use Rattle.mg_merge.proofs.Words.{replied, sent_in, start_of, timed}
-use Rattle.mg_alike.proofs.Words.{HasFewCommands}
 use Rattle.mg_model.specs.declared.events.CallEvent.TheVariants as to_call
+use Rattle.mg_model.specs.Accepted.{HasFewCommands}
 use Rattle.mg_merge.proofs.Commands.Changes.{class_stays}
 use Rattle.mg_merge.proofs.Identifiers.FewCommands.{IsShort, GivesShort, replied_short, passed_short, noted_short, timed_short, heard_short}
 

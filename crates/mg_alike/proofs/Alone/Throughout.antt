@@ -1,9 +1,10 @@
 -- A call of a run of any calls, with those that begin on its lines, goes at each moment as it would go alone.
+use Rattle.mg_model.specs.Accepted.{HasFewCommands}
 use Rattle.std.proofs.Common.{◌≡◌, ◌∙◌, ◌<◌, ◌++◌, ℕ, Bool, true, false, List, [], ◌∷◌, refl, sym, ap, subst, ◌==◌, ◌||◌, if◌then◌else◌}
 use Rattle.mg_merge.proofs.Words.{All, Begins, CallEvent, Entry, Event, HasIdentifiersLeft, IsEntryOf, IsOpening, IsScript, NoneBroken, Occurs, OccursTo}
 use Rattle.mg_merge.proofs.Words.{OfCall, Opened, Restart, Runs, RunsWithin, Script, World, eqb-false, eqb-true, last_association, not_both, only_here}
 use Rattle.mg_merge.proofs.Words.{restarted, with_gateway}
-use Rattle.mg_alike.proofs.Words.{AreReached, CallsAreIsolatedThroughout, CallsWithHeirsAreIsolated, HappensAlone, HasEnoughNumbers, HasFewCommands, RunsBeside}
+use Rattle.mg_alike.proofs.Words.{AreReached, CallsAreIsolatedThroughout, CallsWithHeirsAreIsolated, HappensAlone, HasEnoughNumbers, RunsBeside}
 use Rattle.mg_alike.proofs.Words.{TreatAlike, begins_on, events_with_heirs, heir_of}
 use Rattle.mg_alike.proofs.Alone.Heirs.{begun_on, stays_open, none_retired, has_left, unused_alone, not_retired_alone, kept_begun}
 use Rattle.mg_alike.proofs.Events.Alone.{runs_on, not_beginning, event_retired, reached_both}

@@ -9,7 +9,7 @@ use Rattle.mg_merge.proofs.Words.{leads_on, line_in, made_after, may_accept, no_
 use Rattle.mg_merge.proofs.Words.{replied, replied_to, request_of, resting, sent_in, slice_get_past, state_of, target_of, the_some, timed, unwrap_or-slice_get}
 use Rattle.mg_merge.proofs.Words.{with_accepted}
 use Rattle.mg_model.proofs.Built.{built_no_more}
-use Rattle.mg_merge.specs.Identifiers.{HasFewCommands, most_commands}
+use Rattle.mg_model.specs.Accepted.{HasFewCommands, most_commands}
 
 -- ---- the commands of a state
 

@@ -7,7 +7,8 @@ use Rattle.mg_merge.proofs.Words.{Agent, AgentSteps, AreLeft, Board, CallEvent, 
 use Rattle.mg_merge.proofs.Words.{HasIdentifiersLeft, IsContextLeft, IsEphemeralLeft, IsOpening, Occurs, OccursTo, OfCall, Opened, Request, Restart, Runs}
 use Rattle.mg_merge.proofs.Words.{RunsWithin, Script, World, choose, false_from_ne_true, heard, line_places, noted, nothing_in, passed, replied, sent_in, timed}
 use Rattle.mg_model.specs.declared.events.CallEvent.TheVariants as to_call
-use Rattle.mg_merge.specs.Identifiers.{HasFewCommands, IdentifiersAreLeft, IdentifiersLast, executes_of, executes_in, most_commands, most_shards, most_executes}
+use Rattle.mg_model.specs.Accepted.{HasFewCommands, most_commands}
+use Rattle.mg_merge.specs.Identifiers.{IdentifiersAreLeft, IdentifiersLast, executes_of, executes_in, most_shards, most_executes}
 use Rattle.mg_merge.proofs.Identifiers.Candidates.{class_has_more}
 use Rattle.mg_merge.proofs.Identifiers.FewCommands.{IsShort, GivesShort, replied_short, passed_short, noted_short, timed_short, heard_short}
 use Rattle.mg_merge.proofs.Identifiers.UsedNumbers.{UsesFew, or_more, commands_use_few, settled_uses_few, nothing_used, restarted_uses_none}

@@ -1,10 +1,11 @@
 -- A call that goes among others by some turns goes alone by its own steps with the restarts beside them: what is an event there is the same event alone, what is
 -- idle there is idle alone, and what else happens there leaves it beside itself.
+use Rattle.mg_model.specs.Accepted.{HasFewCommands}
 use Rattle.std.proofs.Common.{◌≡◌, ◌∙◌, ◌<◌, ◌+◌, ℕ, Bool, true, false, List, [], ◌∷◌, Some, refl, sym, ap, subst, inl, inr, ◌%◌, IsTrue}
 use Rattle.mg_merge.proofs.Words.{Agent, All, Begins, CallEvent, Entry, HasIdentifiersLeft, IsEntryOf, IsOpening, IsScript, NoneBroken, Occurs, OccursTo}
 use Rattle.mg_merge.proofs.Words.{OfCall, Opened, PlanStep, Progress, Restart, Script, StepHappens, StepIsIdle, StepsRun, World, after_event, at_one, eqb-true}
 use Rattle.mg_merge.proofs.Words.{last_association, not_both, number_begun, plan_calls, restarted, with_gateway}
-use Rattle.mg_alike.proofs.Words.{HasFewCommands, begins_on}
+use Rattle.mg_alike.proofs.Words.{begins_on}
 use Rattle.mg_safety.proofs.Messages.NamedMessages.{event_numbered, opening_numbered, runs_numbered}
 use Rattle.mg_safety.proofs.Messages.NumberedWorlds.{IsNumbered}
 use Rattle.mg_alike.proofs.Alone.Heirs.{begun_on, stays_open}

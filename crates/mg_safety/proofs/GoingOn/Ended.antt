@@ -9,7 +9,7 @@ use Rattle.mg_names.specs.declared.phases.LinkPhase.TheVariants.{Sent, Answered,
 use Rattle.mg_model.specs.declared.commands.Command.{Command}
 use Rattle.mg_model.specs.declared.events.Event.{Event}
 use Rattle.mg_model.specs.declared.failures.Failure.{Failure}
-use Rattle.mg_model.specs.Accepted.{IsScript}
+use Rattle.mg_model.specs.Accepted.{HasFewCommands, IsScript, most_commands}
 use Rattle.mg_model.specs.Entries.{IsCovered}
 use Rattle.mg_model.specs.Agent.{Agent, bound_by, built_by, entered, forgotten, heard}
 use Rattle.mg_model.specs.Configuration.{Configuration}
@@ -20,7 +20,7 @@ use Rattle.mg_model.specs.Steps.{reset}
 use Rattle.mg_model.specs.Tables.{no_state, state_of}
 use Rattle.mg_model.specs.World.{World, IsOpening, Opened, Runs, agent_steps, hear, is_of_call}
 use Rattle.mg_model.proofs.Cases.{at_one, by_test, where_true}
-use Rattle.mg_safety.specs.Ending.{Brings, CallsCanBeEnded, CanBeEnded, HasFewCommands, IsAtEnd, IsWorth, Leads, LeadsIn, NumbersLast, most_commands}
+use Rattle.mg_safety.specs.Ending.{Brings, CallsCanBeEnded, CanBeEnded, IsAtEnd, IsWorth, Leads, LeadsIn, NumbersLast}
 use Rattle.mg_safety.specs.Followed.{IsShownBy}
 use Rattle.mg_safety.proofs.Agents.HearSound.{hear_current}
 use Rattle.mg_safety.proofs.Certificate.Closed.{closed}

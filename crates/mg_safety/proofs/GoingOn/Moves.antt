@@ -2,7 +2,7 @@
 use Rattle.std.proofs.Common.{◌≡◌, ◌+◌, ◌*◌, ◌≤◌, ℕ, suc, true, List, length, Some, sym, subst, arith}
 use Rattle.std.specs.List.{All}
 use Rattle.mg_model.specs.declared.events.Event.{Event}
-use Rattle.mg_model.specs.Accepted.{IsScript}
+use Rattle.mg_model.specs.Accepted.{IsScript, most_commands}
 use Rattle.mg_model.specs.Agent.{Agent, Phase, awaits_reply, awaits_pass, resting}
 use Rattle.mg_model.specs.Board.{Board}
 use Rattle.mg_model.specs.Configuration.{Configuration}
@@ -10,7 +10,7 @@ use Rattle.mg_model.specs.Numbers.{last_number}
 use Rattle.mg_model.specs.Script.{Script}
 use Rattle.mg_model.specs.Shards.{AreLeft, IsContextLeft, IsEphemeralLeft}
 use Rattle.mg_model.specs.World.{World, IsOpening, Opened, Runs, is_of_call, sent_in}
-use Rattle.mg_safety.specs.Ending.{NumbersLast, most_commands}
+use Rattle.mg_safety.specs.Ending.{NumbersLast}
 use Rattle.mg_safety.proofs.Events.Openings.{openings_sound}
 use Rattle.mg_safety.proofs.GoingOn.AcceptedNotes.{AcceptedAreCounted, opening_accepted, runs_accepted}
 use Rattle.mg_safety.proofs.GoingOn.InOrder.{IsInOrder, opening_in_order, runs_in_order}

@@ -4,7 +4,7 @@ use Rattle.std.specs.Prelude.{IsTrue}
 use Rattle.std.proofs.lemmas.List.Elements.{All-cons, All-nil}
 use Rattle.mg_model.specs.declared.events.CallEvent.TheVariants as to_call
 use Rattle.mg_model.specs.declared.events.Event.{Event}
-use Rattle.mg_model.specs.Accepted.{IsScript}
+use Rattle.mg_model.specs.Accepted.{IsScript, most_commands}
 use Rattle.mg_model.specs.Agent.{Agent, built_by, none_made, passed, replied}
 use Rattle.mg_model.specs.Configuration.{Configuration}
 use Rattle.mg_model.specs.Gateway.{CallLink, last_executed}
@@ -15,7 +15,7 @@ use Rattle.mg_model.specs.Tables.{state_of}
 use Rattle.mg_model.specs.World.{World, OccursTo, Runs, agent_steps, execute, is_of_call, pass, reply}
 use Rattle.mg_model.proofs.Cases.{at_one}
 use Rattle.mg_model.proofs.Single.{first_in}
-use Rattle.mg_safety.specs.Ending.{LeadsIn, NumbersLast, most_commands, undisturbed}
+use Rattle.mg_safety.specs.Ending.{LeadsIn, NumbersLast, undisturbed}
 use Rattle.mg_safety.proofs.Agents.AgentSound.{not_executed, between_of, passes}
 use Rattle.mg_safety.proofs.Agents.AgentParts.{led_to}
 use Rattle.mg_safety.proofs.Agents.EffectiveAgent.{results_keep}
