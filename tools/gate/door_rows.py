@@ -9,8 +9,8 @@ ROWS = TOP / "tests" / "mgtool" / "checks.rows"
 # A line as compilers write it.
 LINE = re.compile(r"(?P<file>.+?):(?P<line>\d+):(?P<column>\d+): (?P<severity>error|warning|note): (?P<text>.+)")
 TOLD = re.compile(r"(script|certificate|intents) (\d+):(\d+) (error|warning|note)((?: \| [^|]+)*)")
-# How the rule of a receiver that stays lifted begins, of which nearly each script has one.
-LIFTED = "[lifted_"
+# The rules of a telephone that is forgotten, of which nearly each script has one.
+FORGOTTEN = re.compile(r"\[(lifted_at_end|lifted_in_silence|heard_put_down)\]")
 # What is told of a place: the file by its kind, the place, how grave it is, and the text or, of a row, what stands in it.
 Told = namedtuple("Told", "kind line column severity says")
 
@@ -86,8 +86,8 @@ def fault_of(row, status, output, folder):
     except ValueError as fault:
         return str(fault)
     grave, asked = ([one for one in every if one.severity != "note"] for every in (found, [*wanted(row.get("told", []))]))
-    if not any(LIFTED in part for one in asked for part in one.says):
-        grave = [one for one in grave if LIFTED not in one.says]
+    if not any(FORGOTTEN.search(part) for one in asked for part in one.says):
+        grave = [one for one in grave if not FORGOTTEN.search(one.says)]
     if len(grave) != len(asked) or not all(map(is_as, grave, asked)):
         return f"{grave}"
     notes = iter(one for one in found if one.severity == "note")

@@ -8,17 +8,18 @@ from shared.programs import TOP
 HOTLINE = TOP / "gallery" / "hotline" / "script.toml"
 
 
-def phone(line, told, plays, lifted=False, silent=False):
+def phone(line, told, plays, lifted=False, silent=False, heard=False):
     """What is told of a telephone; where what plays is none, it isn't told."""
-    found = {"on_line": line, "told": told, "plays": plays, "lifted": lifted, "silent": silent}
+    found = {"on_line": line, "told": told, "plays": plays, "lifted": lifted, "silent": silent, "heard_put_down": heard}
     return {key: value for key, value in found.items() if value is not None}
 
 
-# Telephones: as they should be; where notes come late; where people may do what leads nowhere; where no call rests while people act at rest; and where it isn't
-# told what plays.
+# Telephones: as they should be; where notes come late; where people may do what leads nowhere; where one is heard before it is lifted; where no call rests while
+# people act at rest; and where it isn't told what plays.
 AS_MEANT = [phone("gate", [["rt"]], [["rt"]], True), phone("guard", [["ri"]], [["ri"]])]
 LATE = [phone("gate", [["rt"], ["ri"]], [["rt"]], True), phone("guard", [["ri"], []], [["ri"]])]
 LEADS_NOWHERE = [phone("gate", [["rt"]], [["rt"], []], True, True), phone("guard", [["ri", "bt"]], [[], ["ri", "bt"]])]
+OPEN = [phone("gate", [[]], [[]], True), phone("guard", [["ri"]], [["ri"]], heard=True)]
 ANYHOW = [phone("gate", [["rt"]], []), phone("guard", [[]], [])]
 TOO_LITTLE = [phone("gate", [["rt"]], None), phone("guard", [["ri"]], None)]
 # Telephones, none where nothing is told of them, with what is said of them, in a state and in an end.
@@ -27,6 +28,7 @@ SAID = (
     (LATE, ["gate: rt, told ri too, lifted", "guard: ri, told nothing too"], ["gate: rt, told ri too, lifted", "guard: ri, told nothing too"]),
     (LEADS_NOWHERE, ["gate: rt or nothing, lifted in silence", "guard: nothing or ri and bt"], ["gate: rt or nothing, lifted", "guard: nothing or ri and bt"]),
     (ANYHOW, ["gate: told rt too", "guard: told nothing too"], ["gate: told rt too", "guard: told nothing too"]),
+    (OPEN, ["gate: lifted", "guard: ri, heard while it is down"], ["gate: lifted", "guard: ri, heard while it is down"]),
     ([phone("gate", [[]], [[]]), phone("guard", [[]], [[]])], [], []),
     ([], [], []),
     (None, [], []),

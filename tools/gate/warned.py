@@ -56,7 +56,7 @@ MIDDLES = (
 )
 # Two telephones whose call waits until both are put down, whatever is lifted again meanwhile, also after a restart.
 WAITING = (TOP / "tests" / "mgtool" / "waiting" / "script.toml").read_text()
-# The same with something else in it, and what is warned of receivers that stay lifted: the word, the state and the line. In `wait` and in `b_down` a is lifted
+# The same with something else in it, and what is warned of telephones that are forgotten: the word, the state and the line. In `wait` and in `b_down` a is lifted
 # with the list that it was given in `wait`. A bell is no tone for who has lifted.
 SILENT = [("lifted_in_silence", "wait", "a"), ("lifted_in_silence", "b_down", "a")]
 RECEIVERS = (
@@ -80,13 +80,21 @@ ENTRIES = (
     ("held where no call comes", [], [IDLE, WIDE_IDLE],
      [("entry_held", 0, None, 16), ("entry_held", 15, None, 16), ("entry_unreached", 15, None, None), ("point_unreached", 16, 0, None)]),
 )
-# Patterns of gallery/patterns: what is warned of in states where they aren't followed, but for notes that come to nothing and receivers that stay lifted; where
-# they are, nothing is.
+# Patterns of gallery/patterns: what is warned of in states where they aren't followed, but for notes that come to nothing and telephones that are forgotten;
+# where they are, nothing is.
 PATTERNS = {
     "end_marked": {"state_never_left", "cannot_be_moved", "cannot_end"},
     "armed_for": {"arrow_unused", "state_unlisted"},
     "no_dead_line": {"arrow_unused", "line_deaf"},
     "clearing": {"command_refused", "cannot_end"},
+}
+# Scripts of the patterns, with the states and the lines of which it is warned that a line is heard while its receiver is down.
+HEARD = {
+    ("permission", "without"): [("ring", "b")],
+    ("permission", "mended"): [],
+    ("star", "with"): [("talk", "b")],
+    ("cut_off", "without"): [("back", "b"), ("hold", "b"), ("talk", "b")],
+    ("end_marked", "mended"): [],
 }
 
 
@@ -118,7 +126,7 @@ def status_wrong(program, data, page):
 
 
 def wrong(program, data, facts, wanted, of_receivers=False):
-    """What is wrong with what is warned of: of receivers that stay lifted, or of all else."""
+    """What is wrong with what is warned of: of telephones that are forgotten, or of all else."""
     page = told_words.facts(program, data)[1]
     if not page["line"].startswith("yes "):
         yield page["line"]
@@ -137,6 +145,15 @@ def patterns(program):
             told = {warning["warning"] for warning in page.get("warnings", []) if "state" in warning} - {"note_swallowed", *lifted.WARNINGS}
             wanted = unfollowed if folder.name == "without" else set()
             yield f"warnings: {name} {folder.name}", [] if told == wanted else [f"{told}, and not {wanted}"]
+
+
+def heard(program):
+    """Scripts of the patterns with what is wrong with what is warned of lines that are heard while their receivers are down."""
+    for (name, kind), wanted in HEARD.items():
+        folder = TOP / "gallery" / "patterns" / name / kind
+        page = told_words.facts(program, DIVIDER.join((folder / file).read_bytes() for file in ("script.toml", "certificate.json")))[1]
+        told = sorted((one["state"], *one["names"]) for one in page["warnings"] if one["warning"] == "heard_put_down")
+        yield f"warnings: heard in {name} {kind}", [] if told == wanted else [f"{told}, and not {wanted}"]
 
 
 def of_state(warning):
@@ -172,6 +189,7 @@ def judged(program):
     for name, first, last, wanted in ENTRIES:
         yield f"warnings: {name}", [*wrong(program, joined(script, [*first, *own, *last]), of_entry, wanted)]
     yield from patterns(program)
+    yield from heard(program)
     for name, words, data in (
         ("of a plan", ("--strict",), joined(script, own) + DIVIDER + (STORY / "plan.toml").read_bytes()),
         ("of a plan as JSON", ("--strict", "--json"), joined(script, own) + DIVIDER + (STORY / "plan.toml").read_bytes()),

@@ -54,7 +54,8 @@ def tones(sets):
 
 
 def telephone(told, state):
-    """What is said of a telephone: what plays, what else its line may have been given last, and whether its receiver may be lifted."""
+    """What is said of a telephone: what plays, what else its line may have been given last, whether its receiver may be lifted, and whether it may be
+    heard while that is down."""
     plays = told.get("plays", told["told"])
     if plays not in ([], [[]]):
         yield tones(plays)
@@ -62,6 +63,8 @@ def telephone(told, state):
         yield f"told {tones(more)} too"
     if told["lifted"]:
         yield "lifted in silence" if told["silent"] and not state.get("end", False) else "lifted"
+    if told.get("heard_put_down", False):
+        yield "heard while it is down"
 
 
 def telephones(told, state):

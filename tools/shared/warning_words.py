@@ -4,12 +4,15 @@ from shared import coverage_words
 
 USELESS = "What of it no call uses, the lines that no call hears, the notes and commands that nothing comes of,"
 WARNED = f"{USELESS} and the states in which calls are stuck:"
-LIFTED = f"{USELESS} the states in which calls are stuck, and the receivers that stay lifted:"
+FORGETTING = f"{USELESS} the states in which calls are stuck, and the telephones that are forgotten:"
 UNWARNED = (
     "Calls come to each point and use each transition and mark, each line is heard wherever a call rests, no note is swallowed but in the start state, "
     "no command is left out or refused each time, and each call can be moved on and be brought to its end."
 )
-PUT_DOWN = "Where nothing goes wrong no call ends with a receiver lifted, and none rests but in the start state with one that hears nothing and can do nothing."
+PUT_DOWN = (
+    "Where nothing goes wrong no call ends with a receiver lifted, none rests but in the start state with one that hears nothing and can do nothing, "
+    "and no line is heard while its receiver is down."
+)
 WARNINGS = {
     "state_unlisted": "no entry is of it, so no call comes to it.",
     "state_never_left": "calls come to it and none ends in it, and no step leads to another state.",
@@ -30,6 +33,7 @@ WARNINGS = {
         "a call can rest in it with the receiver of {0} lifted, where it hears no tone and nobody, and nothing is raised of what can be done with it. "
         "{advice}"
     ),
+    "heard_put_down": "a call can rest in it with the receiver of {0} down, and another line hears what is said there. {advice}",
 }
 # What may be done about a warning, each in its case.
 HEAR = "Let `on.{0}.{kind}` lead somewhere, or give {0} a list without that event before a call rests here."
@@ -41,9 +45,12 @@ MOVE = (
 )
 END = "Let a state on the way from there lead, by a timer, by a reply or by a receiver, to one that is marked `end`."
 HANG_UP = "Let a state before the end wait until it is put down: `on.{0}.on` leads on from there."
+CLOSE = "Let `on.{0}.on` lead on from there, with a list that has `al/on=state`, or give {0} a mode by which it isn't heard before it is lifted."
 TELL = "Give {0} a tone, a list with `al/on`, or one to talk with; or let `on.{0}.of` lead somewhere before."
 # The same of a line, by the warning.
-OF_LINE = {"note_swallowed": HEAR, "lifted_at_end": HANG_UP, "lifted_in_silence": TELL}
+OF_LINE = {"note_swallowed": HEAR, "lifted_at_end": HANG_UP, "lifted_in_silence": TELL, "heard_put_down": CLOSE}
+# Those of a telephone that is forgotten.
+FORGOTTEN = ("lifted_at_end", "lifted_in_silence", "heard_put_down")
 # What a command asks, by its first word.
 NEEDS = {
     "add": "It asks that its context is there, and that what it adds stands in the null context or is created.",
@@ -97,7 +104,7 @@ def warned(told, page, script):
 
 def heading(page):
     """The line above warnings."""
-    return LIFTED if any(told["warning"] in ("lifted_at_end", "lifted_in_silence") for told in page.get("warnings", [])) else WARNED
+    return FORGETTING if any(told["warning"] in FORGOTTEN for told in page.get("warnings", [])) else WARNED
 
 
 def unwarned(page):

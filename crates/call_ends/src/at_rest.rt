@@ -3,8 +3,8 @@ ghost use Rattle.std.specs.Prelude.{◌≡◌, ◌↔◌, ◌<◌, ◌++◌, ◌
 ghost use Rattle.mg_model.specs.Paths.{HasPath};
 ghost use Rattle.mg_model.specs.Tables.{items_of};
 ghost use Rattle.configuration.specs.Config.{configuration_of};
-ghost use Rattle.call_ends.specs.Spreading.{Adds, IsAmong, IsLifted, IsOnce, IsSilent, IsTold, RestsIn, RestsSo, point_of, points_of};
-ghost use Rattle.call_ends.specs.Telephones.{IsInSilence, has_tone, hears_lifted};
+ghost use Rattle.call_ends.specs.Spreading.{Adds, IsAmong, IsHeard, IsLifted, IsOnce, IsSilent, IsTold, RestsIn, RestsSo, point_of, points_of};
+ghost use Rattle.call_ends.specs.Telephones.{IsHeardAt, IsHeardDown, IsInSilence, has_tone, hears_down, hears_lifted};
 
 use crate::following::Node;
 use crate::notes::has_standing;
@@ -185,6 +185,74 @@ pub(crate) fn is_silent_in(script: &Script, line: Slot, nodes: &[Node], state: u
 {
     for node in nodes {
         if rests_silent(script, line, node, state) {
+            return true;
+        }
+    }
+    false
+}
+
+// ---- what is said there while it is down
+
+/// Whether what is said at a line is heard at this other one.
+fn is_heard_at(config: &Config, line: Slot, other: Slot) -> bool
+    ensures { IsTrue result ↔ IsHeardAt (configuration_of config.now) line other }
+{
+    if other == line {
+        return false;
+    }
+    has_path(config, line, other)
+}
+
+/// Whether it is heard at some other line.
+fn is_heard(script: &Script, config: &Config, line: Slot) -> bool
+    ensures { IsTrue result ↔ ((j : ℕ) × ((j < length script.now.lines) × IsHeardAt (configuration_of config.now) line j)) }
+{
+    let slots = Slot::all();
+    for place in 0..script.lines() {
+        if is_heard_at(config, line, slots[place]) {
+            return true;
+        }
+    }
+    false
+}
+
+/// Whether it leads on that the receiver lies down, since the line's list recognises that as it stands.
+fn hears_down(script: &Script, config: &Config, line: Slot) -> bool
+    ensures { result ≡ hears_down script.now line (configuration_of config.now) }
+{
+    has_standing(script.list(config.events(line)), Kind::On)
+        && script.target_of(config.state(), line, Kind::On).is_some()
+}
+
+/// Whether the receiver is down, nothing comes of that, and another line hears what is said there.
+fn is_heard_down(script: &Script, line: Slot, node: &Node) -> bool
+    ensures { IsTrue result ↔ IsHeardDown script.now line (configuration_of node.now.config) node.now.phone }
+{
+    if node.phone.lifted {
+        return false;
+    }
+    if hears_down(script, &node.config, line) {
+        return false;
+    }
+    is_heard(script, &node.config, line)
+}
+
+/// Whether a call rests in a state so.
+fn rests_heard(script: &Script, line: Slot, node: &Node, state: u8) -> bool
+    ensures { IsTrue result ↔ (RestsIn state (point_of node.now) × IsHeard script.now line (point_of node.now)) }
+{
+    if !rests_in(node, state) {
+        return false;
+    }
+    is_heard_down(script, line, node)
+}
+
+/// Whether some call does.
+pub(crate) fn is_heard_in(script: &Script, line: Slot, nodes: &[Node], state: u8) -> bool
+    ensures { IsTrue result ↔ RestsSo (IsHeard script.now line) (points_of nodes.now) state }
+{
+    for node in nodes {
+        if rests_heard(script, line, node, state) {
             return true;
         }
     }

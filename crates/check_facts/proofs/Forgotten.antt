@@ -1,5 +1,5 @@
 -- Whether a telephone is forgotten, by what was found of each line.
-use Rattle.std.proofs.Common.{◌≡◌, ◌∙◌, ◌↔◌, ◌⊎◌, inl, inr, ℕ, zero, suc, ◌+◌, ◌<◌, ◌≤◌, ◌==◌, Bool, true, false, if◌then◌else◌, IsTrue, List, [], ◌∷◌, ◌++◌, Some, length, length-append, refl, sym, ap, subst, arith, rules}
+use Rattle.std.proofs.Common.{◌≡◌, ◌∙◌, ◌↔◌, ◌⊎◌, inl, inr, ℕ, zero, suc, ◌+◌, ◌<◌, ◌≤◌, ◌==◌, ◌||◌, Bool, true, false, if◌then◌else◌, IsTrue, List, [], ◌∷◌, ◌++◌, Some, length, length-append, refl, sym, ap, subst, arith, rules}
 use Rattle.std.specs.List.{slice_get, slice_index_or}
 use Rattle.std.proofs.lemmas.Option.{none-some, same_Some, slice_get_read, slice_get_within}
 use Rattle.mg_model.specs.Script.{Script}
@@ -8,9 +8,9 @@ use Rattle.mg_model.specs.Tables.{state_of}
 use Rattle.call_ways.proofs.Lists.{in_push}
 use Rattle.call_ends.specs.declared.resting_telephones.RestingTelephone.{RestingTelephone}
 use Rattle.call_ends.specs.RestingTelephones.{AreRestingTelephones, IsRestingTelephone}
-use Rattle.call_ends.specs.Telephones.{IsLiftedAtRest, IsSilentAtRest}
+use Rattle.call_ends.specs.Telephones.{IsHeardDownAtRest, IsLiftedAtRest, IsSilentAtRest}
 use Rattle.check_facts.specs.declared.telephones.LineTelephones.{LineTelephones}
-use Rattle.check_facts.specs.Forgotten.{AreTelephones, AreTelephonesBelow, HasForgotten, HasForgottenAt, HasForgottenIn, IsForgotten, IsForgottenIn, SomeIsForgotten, is_forgotten}
+use Rattle.check_facts.specs.Forgotten.{AreTelephones, AreTelephonesBelow, HasForgotten, HasForgottenAt, HasForgottenIn, IsForgotten, IsForgottenIn, IsLeftLifted, SomeIsForgotten, is_forgotten, is_left_lifted}
 
 has_at : {X : Type 0} (xs : List X) (i : ℕ) → i < length xs → (x : X) × (slice_get xs i ≡ Some x)
 has_at [] i within = absurd (omega (arith, within))
@@ -43,10 +43,22 @@ choice_says false false lifted silent A B says other = (
   ]),
 )
 
+either_says : (one other : Bool) (A B : Type 0) → IsTrue one ↔ A → IsTrue other ↔ B → IsTrue (one || other) ↔ (A ⊎ B)
+either_says true other A B says more = ((λ yes. inl (says.0 refl)), (λ is. refl))
+either_says false other A B says more = (
+  (λ yes. inr (more.0 yes)),
+  (λ is. elim is [
+    | inl here ↦ absurd (let bad : false ≡ true = says.1 here in search rules)
+    | inr there ↦ more.1 there
+  ]),
+)
+
 one_says : (table : Script) (entries : List Entry) (s i : ℕ) (one : RestingTelephone) → IsRestingTelephone table entries s i one
     → IsTrue (is_forgotten table s one) ↔ IsForgotten table entries s i
 one_says table entries s i one is =
-    choice_says (state_of table s).is_end (s == table.start) one.is_lifted one.is_silent (IsLiftedAtRest table entries s i) (IsSilentAtRest table entries s i) is.lifted is.silent
+    either_says (is_left_lifted table s one) one.is_heard (IsLeftLifted table entries s i) (IsHeardDownAtRest table entries s i)
+    (choice_says (state_of table s).is_end (s == table.start) one.is_lifted one.is_silent (IsLiftedAtRest table entries s i) (IsSilentAtRest table entries s i) is.lifted is.silent)
+    is.heard
 
 pub past_states : (table : Script) (list : List RestingTelephone) (s : ℕ) → length list ≤ s → IsTrue false ↔ IsForgottenIn table list s
 past_states table list s past = (

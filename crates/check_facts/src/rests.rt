@@ -1,5 +1,6 @@
 //! What is so where calls rest, state by state: who hears whom, which notes the lists of the lines raise, how far a request has come where a mark is needed,
-//! what is so of the telephones, and whether calls can be moved and brought to their ends. Each is what `call_ways` or `call_ends` answers of the configurations that calls come to.
+//! what is so of the telephones, and whether calls can be moved and brought to their ends. Each is what `call_ways` or `call_ends` answers of the configurations
+//! that calls come to.
 use crate::names::{line_name, state_name};
 use crate::telephone_facts::write_telephones;
 use crate::telephones::LineTelephones;

@@ -53,8 +53,11 @@ fn write_telephone(
     write_told(out, one.told.as_slice())?;
     out.push_str(r#"],"plays":["#)?;
     write_told(out, one.plays.as_slice())?;
-    let (lifted, silent) = (one.is_lifted, one.is_silent);
-    write!(out, r#"],"lifted":{lifted},"silent":{silent}}}"#)
+    let (lifted, silent, heard) = (one.is_lifted, one.is_silent, one.is_heard);
+    write!(
+        out,
+        r#"],"lifted":{lifted},"silent":{silent},"heard_put_down":{heard}}}"#
+    )
 }
 
 /// Adds what is so of the telephone at each line where calls rest in a state. The only error is running out of memory.

@@ -1,31 +1,37 @@
 //! The warnings of telephones that are forgotten where calls rest.
 use crate::names::{line_name, state_name};
-use crate::telephones::{LineTelephones, is_forgotten};
+use crate::telephones::{LineTelephones, is_left_lifted};
+use mg_names::slots::Slot;
 use script_table::Script;
 use std::alloc::AllocError;
 
-/// Adds the warning of a telephone that is forgotten in a state, behind a comma where another stands before it.
+/// Adds a warning of the telephone at a line in a state, behind a comma where another stands before it.
 fn write_warning(
     out: &mut String,
     script: &Script,
-    of_line: &LineTelephones,
+    word: &str,
     state: u8,
+    line: Slot,
     is_first: bool,
 ) -> Result<(), AllocError> {
     let gap = if is_first { "" } else { "," };
-    let word = if script.ends_in(state) {
-        "lifted_at_end"
-    } else {
-        "lifted_in_silence"
-    };
-    let (state, line) = (state_name(script, state), line_name(script, of_line.line));
+    let (state, line) = (state_name(script, state), line_name(script, line));
     write!(
         out,
         r#"{gap}{{"warning":"{word}","state":"{state}","names":["{line}"]}}"#
     )
 }
 
-/// Adds that warning where it is to be; says whether none stands there yet.
+/// The warning of a telephone that is left lifted in a state.
+fn left_lifted(script: &Script, state: u8) -> &'static str {
+    if script.ends_in(state) {
+        "lifted_at_end"
+    } else {
+        "lifted_in_silence"
+    }
+}
+
+/// Adds what is warned of the telephone at a line in a state; says whether none stands there yet.
 fn write_if_forgotten(
     out: &mut String,
     script: &Script,
@@ -36,11 +42,17 @@ fn write_if_forgotten(
     let Some(one) = of_line.states.get(state as usize) else {
         return Ok(is_first);
     };
-    if !is_forgotten(script, state, one) {
-        return Ok(is_first);
+    let mut is_none = is_first;
+    if is_left_lifted(script, state, one) {
+        let word = left_lifted(script, state);
+        write_warning(out, script, word, state, of_line.line, is_none)?;
+        is_none = false;
     }
-    write_warning(out, script, of_line, state, is_first)?;
-    Ok(false)
+    if one.is_heard {
+        write_warning(out, script, "heard_put_down", state, of_line.line, is_none)?;
+        is_none = false;
+    }
+    Ok(is_none)
 }
 
 /// Adds the warnings of the telephone at a line, state by state; says whether none stands there yet.

@@ -1,6 +1,6 @@
 //! The telephones of the lines where calls rest, and whether one of them is forgotten there.
 ghost use Rattle.std.specs.Prelude.{◌≡◌, ◌↔◌, ℕ, IfNone, IfOk, IfSome, IsTrue};
-ghost use Rattle.check_facts.specs.Forgotten.{AreTelephones, ComeToManyOfALine, HasForgotten, HasForgottenIn, IsForgottenIn, is_forgotten};
+ghost use Rattle.check_facts.specs.Forgotten.{AreTelephones, ComeToManyOfALine, HasForgotten, HasForgottenIn, IsForgottenIn, is_forgotten, is_left_lifted};
 
 use call_ends::resting_telephones::{RestingTelephone, find_resting_telephones};
 use entry_table::Cert;
@@ -41,9 +41,9 @@ pub(crate) fn find_telephones(
     Ok(Some(list))
 }
 
-/// Whether a telephone is forgotten in a state: its receiver may be lifted where that is an end, or be so in silence where it is neither that nor the start.
-pub(crate) fn is_forgotten(script: &Script, state: u8, one: &RestingTelephone) -> bool
-    ensures { result ≡ is_forgotten script.now state one.now }
+/// Whether a telephone is left lifted in a state: its receiver may be so where that is an end, or in silence where it is neither that nor the start.
+pub(crate) fn is_left_lifted(script: &Script, state: u8, one: &RestingTelephone) -> bool
+    ensures { result ≡ is_left_lifted script.now state one.now }
 {
     if script.ends_in(state) {
         return one.is_lifted;
@@ -52,6 +52,13 @@ pub(crate) fn is_forgotten(script: &Script, state: u8, one: &RestingTelephone) -
         return false;
     }
     one.is_silent
+}
+
+/// Whether a telephone is forgotten in a state: left lifted, or heard while its receiver is down.
+fn is_forgotten(script: &Script, state: u8, one: &RestingTelephone) -> bool
+    ensures { result ≡ is_forgotten script.now state one.now }
+{
+    is_left_lifted(script, state, one) || one.is_heard
 }
 
 /// Whether that of a state is, of these of each.
