@@ -2,6 +2,7 @@
 use Rattle.std.proofs.Common.{Ok, refl, []}
 use Rattle.mg_examples.specs.BegunTalk.{renewing, renewing_entries}
 use Rattle.mg_examples.specs.CreatedTwice.{created_twice, created_twice_entries}
+use Rattle.mg_examples.specs.Dials.{dial_entries, dials}
 use Rattle.mg_examples.specs.NamesKept.{name_kept, name_kept_entries}
 use Rattle.mg_examples.specs.TalkEntries.{reachable, after_a_restart, at_rest, in_idle}
 use Rattle.mg_examples.specs.TwoLines.{calling, recovering}
@@ -46,3 +47,7 @@ created_twice_read = certificate_read created_twice bytes.created_twice created_
 pub name_kept_read : ReadsCertificate name_kept bytes.name_kept (Ok name_kept_entries)
 unfolding certificates_on_texts
 name_kept_read = certificate_read name_kept bytes.name_kept name_kept_entries refl refl
+
+pub dials_read : ReadsCertificate dials bytes.dials (Ok dial_entries)
+unfolding certificates_on_texts
+dials_read = certificate_read dials bytes.dials dial_entries refl refl

@@ -1,15 +1,17 @@
 -- How many points the entries of the examples have that break no obligation.
-use Rattle.std.proofs.Common.{◌+◌, ◌==◌, ℕ, List, [], ◌∷◌, Some, refl, inl}
+use Rattle.std.proofs.Common.{◌+◌, ◌==◌, ℕ, List, [], ◌∷◌, Option, Some, None, refl, inl}
 use Rattle.mg_names.specs.declared.context_values.ContextValue.TheVariants.{Free, Live}
 use Rattle.mg_names.specs.declared.phases.LinkPhase.{LinkPhase}
 use Rattle.mg_names.specs.declared.phases.LinkPhase.TheVariants.{Sent, Answered, Failed, Resting}
 use Rattle.mg_model.specs.declared.commands.EventsName.{EventsName}
-use Rattle.mg_model.specs.declared.commands.EventsName.TheVariants.{Empty, Armed}
+use Rattle.mg_model.specs.declared.commands.EventsName.TheVariants.{Empty, Armed, Own}
 use Rattle.mg_model.specs.Configuration.{IsWellFormed}
 use Rattle.mg_model.specs.Entries.{Entry, HasPoints, HasPointsBelow, HavePoints, numbered}
 use Rattle.mg_examples.specs.BegunTalk.{renewing_entries, restarting, ended}
+use Rattle.mg_examples.specs.Dials as dialling
 use Rattle.mg_examples.specs.EntriesOfTwo.{null, talking}
 use Rattle.mg_examples.specs.TalkEntries.{idle_unarmed, idle_armed, sent, half, both, stopped_at_once, stopped_half, reachable}
+use Rattle.mg_examples.specs.Unarmed.{resting_idle}
 use Rattle.mg_examples.proofs.EntriesOfTwo.{point_of, point_formed, is_free_live, is_first_live, is_both_live}
 
 -- ---- an entry, and entries
@@ -34,6 +36,11 @@ first_in state link = point_formed state link Armed talking null (Some Live) is_
 
 both_in : (link : LinkPhase) → IsWellFormed (point_of 1 link Armed talking talking (Some Live))
 both_in link = point_formed 1 link Armed talking talking (Some Live) is_both_live
+
+-- in a script without a context, whether or not line a has a list of its own
+listening : (state : ℕ) (link : LinkPhase) (list : EventsName) (own : Option EventsName)
+    → IsWellFormed (point_of state link list (record null { own = own }) null None)
+listening state link list own = point_formed state link list (record null { own = own }) null None (λ j. refl)
 
 -- ---- the entries
 
@@ -80,3 +87,20 @@ renewing_counted =
   where
     stopped : List Entry
     stopped = restarting ∷ stopped_at_once ∷ stopped_half ∷ ended ∷ []
+
+pub dials_counted : HavePoints dialling.dial_entries 11
+dials_counted =
+    and_more dialling.after_a_restart (resting_idle ∷ dialling.not_asked ∷ dialling.collects ∷ stopped) 2 9
+    (two_points dialling.after_a_restart (listening 0 Answered Empty None) (listening 0 Resting Empty None))
+    (and_more resting_idle (dialling.not_asked ∷ dialling.collects ∷ stopped) 1 8 (one_point resting_idle (listening 0 Resting Armed None))
+    (and_more dialling.not_asked (dialling.collects ∷ stopped) 2 6
+    (two_points dialling.not_asked (listening 1 Sent Armed None) (listening 1 Failed Armed None))
+    (and_more dialling.collects stopped 2 4
+    (two_points dialling.collects (listening 1 Answered Armed (Some (Own 0))) (listening 1 Resting Armed (Some (Own 0))))
+    (and_more dialling.stopped_at_once (dialling.stopped_dialled ∷ []) 2 2
+    (two_points dialling.stopped_at_once (listening 2 Answered Armed None) (listening 2 Resting Armed None))
+    (and_more dialling.stopped_dialled [] 2 0
+    (two_points dialling.stopped_dialled (listening 2 Answered Armed (Some (Own 0))) (listening 2 Resting Armed (Some (Own 0)))) refl)))))
+  where
+    stopped : List Entry
+    stopped = dialling.stopped_at_once ∷ dialling.stopped_dialled ∷ []

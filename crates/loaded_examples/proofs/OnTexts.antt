@@ -13,17 +13,24 @@ use Rattle.mg_model.proofs.Cases.{none_is_some, the_some}
 use Rattle.mg_model.specs.Entries.{Entry}
 use Rattle.mg_model.specs.Script.{Script}
 use Rattle.certificate.specs.Certificate.{ReadsCertificate, document_read}
-use Rattle.scriptreader.specs.Documents.{events_in, kinds_of, line_of, lines_of, state_in, document_in}
+use Rattle.digits.specs.Reading.{alternative_of, alternatives_of, map_of, position_at, values}
+use Rattle.digits.specs.Symbols.{position_of, symbol_of}
+use Rattle.scriptreader.specs.Documents.{events_in, map_in, kinds_of, line_of, lines_of, state_in, document_in}
 use Rattle.scriptreader.specs.Texts.{parts_at, item_of, pair_of, with_option, options_from, add_of, modify_of, subtract_of, command_of}
 use Rattle.scriptreader.specs.Faults.{has_bad_name, is_loop, state_repeats, has_duplicate, command_known, item_known, state_known, has_unknown, has_bad_map, subtracts_made, makes_and_subtracts, state_fault_of, use_fault_of, fault_of}
-use Rattle.scriptreader.specs.Meaning.{add_line_for, modify_line_for, subtract_for, subtract_all_for, command_for, pair_for, transition_for, state_for, item_for, events_list_for, script_in}
+use Rattle.scriptreader.specs.Meaning.{add_line_for, modify_line_for, subtract_for, subtract_all_for, command_for, pair_for, transition_for, state_for, item_for, events_list_for, named_map_for, script_in}
 use Rattle.scriptreader.specs.Reading.{ReadsScript, tree_read}
 use Rattle.typed_values.specs.Names.{is_name}
 
--- the document that bytes are, which has no signals list, no map and no ephemeral, and whose commands are of lines
+-- the document that bytes are, which has no signals list and no ephemeral, and whose commands are of lines
 unfoldable documents_on_texts : ⊤
-unfolding chars is_utf8 toml_on_literals is_name events_in kinds_of line_of lines_of state_in document_in parts_at item_of pair_of with_option options_from
+unfolding chars is_utf8 toml_on_literals is_name events_in map_in kinds_of line_of lines_of state_in document_in parts_at item_of pair_of with_option options_from
 documents_on_texts = tt
+
+-- the map of a text, in which no range stands
+unfoldable maps_on_texts : ⊤
+unfolding symbol_of position_of values position_at alternative_of alternatives_of map_of
+maps_on_texts = tt
 
 -- its faults
 unfoldable faults_on_texts : ⊤
@@ -32,12 +39,12 @@ faults_on_texts = tt
 
 -- its table
 unfoldable meaning_on_texts : ⊤
-unfolding add_line_for modify_line_for subtract_for subtract_all_for command_for pair_for transition_for state_for item_for events_list_for script_in
+unfolding add_line_for modify_line_for subtract_for subtract_all_for command_for pair_for transition_for state_for item_for events_list_for named_map_for script_in
 meaning_on_texts = tt
 
 -- the reader of scripts, on such bytes
 unfoldable pub scripts_on_texts : ⊤
-unfolding documents_on_texts add_of modify_of subtract_of command_of faults_on_texts state_fault_of use_fault_of fault_of meaning_on_texts tree_read
+unfolding documents_on_texts add_of modify_of subtract_of command_of maps_on_texts faults_on_texts state_fault_of use_fault_of fault_of meaning_on_texts tree_read
 scripts_on_texts = tt
 
 -- the reader of certificates

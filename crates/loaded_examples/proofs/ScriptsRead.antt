@@ -3,6 +3,7 @@ use Rattle.std.proofs.Common.{Ok, refl, []}
 use Rattle.mg_examples.specs.Basic.{basic}
 use Rattle.mg_examples.specs.BegunTalk.{renewing}
 use Rattle.mg_examples.specs.CreatedTwice.{created_twice}
+use Rattle.mg_examples.specs.Dials.{dials}
 use Rattle.mg_examples.specs.NameStays.{name_stays}
 use Rattle.mg_examples.specs.NamesKept.{name_kept}
 use Rattle.mg_examples.specs.TwoLines.{calling, recovering}
@@ -47,3 +48,7 @@ name_kept_read = script_read bytes.name_kept name_kept refl refl
 pub name_stays_read : ReadsScript bytes.name_stays (Ok name_stays)
 unfolding scripts_on_texts
 name_stays_read = script_read bytes.name_stays name_stays refl refl
+
+pub dials_read : ReadsScript bytes.dials (Ok dials)
+unfolding scripts_on_texts
+dials_read = script_read bytes.dials dials refl refl

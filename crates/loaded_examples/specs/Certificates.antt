@@ -109,3 +109,17 @@ name_kept = text_of (
     ∷ codes "]}"
     ∷ []
     )
+
+-- `dial_entries`
+abbrev pub dials : List ℕ
+dials = text_of (
+    codes "{\"version\":2,\"entries\":["
+    ∷ codes "{\"state\":\"idle\",\"link\":[\"ok\",\"rest\"],\"lines\":{\"a\":{\"events\":[\"none\"]},\"b\":{\"events\":[\"none\"]}}},"
+    ∷ codes "{\"state\":\"idle\",\"link\":[\"rest\"]},"
+    ∷ codes "{\"state\":\"dial\",\"link\":[\"sent\",\"fault\"]},"
+    ∷ codes "{\"state\":\"dial\",\"link\":[\"ok\",\"rest\"],\"lines\":{\"a\":{\"events\":[\"keys\"]}}},"
+    ∷ codes "{\"state\":\"stopped\",\"link\":[\"ok\",\"rest\"]},"
+    ∷ codes "{\"state\":\"stopped\",\"link\":[\"ok\",\"rest\"],\"lines\":{\"a\":{\"events\":[\"keys\"]}}}"
+    ∷ codes "]}"
+    ∷ []
+    )

@@ -214,3 +214,28 @@ name_stays = text_of (
     ∷ codes "name = \"refused\""
     ∷ []
     )
+
+-- `dials`
+abbrev pub dials : List ℕ
+dials = text_of (
+    codes "lines = [\"a\", \"b\"]"
+    ∷ codes "start = \"idle\""
+    ∷ codes "restart = \"idle\""
+    ∷ codes "[[events]]"
+    ∷ codes "name = \"keys\""
+    ∷ codes "list = [\"dd/ce=number\"]"
+    ∷ codes "[[maps]]"
+    ∷ codes "name = \"number\""
+    ∷ codes "map = \"11\""
+    ∷ codes "[[state]]"
+    ∷ codes "name = \"idle\""
+    ∷ codes "on.a.of = \"dial\""
+    ∷ codes "[[state]]"
+    ∷ codes "name = \"dial\""
+    ∷ codes "do = [\"modify - a events=keys\"]"
+    ∷ codes "fault = \"stopped\""
+    ∷ codes "on.a.full = \"stopped\""
+    ∷ codes "[[state]]"
+    ∷ codes "name = \"stopped\""
+    ∷ []
+    )

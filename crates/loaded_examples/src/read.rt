@@ -6,6 +6,7 @@ ghost use Rattle.loaded_examples.specs.Scripts as scripts;
 ghost use Rattle.mg_examples.specs.Basic.{basic};
 ghost use Rattle.mg_examples.specs.BegunTalk.{renewing, renewing_entries};
 ghost use Rattle.mg_examples.specs.CreatedTwice.{created_twice, created_twice_entries};
+ghost use Rattle.mg_examples.specs.Dials.{dial_entries, dials};
 ghost use Rattle.mg_examples.specs.NameStays.{name_stays};
 ghost use Rattle.mg_examples.specs.NamesKept.{name_kept, name_kept_entries};
 ghost use Rattle.mg_examples.specs.TalkEntries.{after_a_restart, at_rest, in_idle, reachable};
@@ -48,4 +49,10 @@ pub fn needed_are_read()
     ensures unbound { AreRead scripts.created_twice certificates.created_twice created_twice created_twice_entries }
     ensures reset { AreRead scripts.recovering certificates.at_rest recovering at_rest }
     ensures live { AreRead scripts.name_kept certificates.name_kept name_kept name_kept_entries }
+{}
+
+/// Of the script and the entries under which a call whose user dialled too little stays where it is (`mg_examples::runs::digits_are_not_enough`): the bytes
+/// of the case `digits_alone.in` of `tests/cases` are read as these, its map and its events list among them.
+pub fn digits_are_read()
+    ensures { AreRead scripts.dials certificates.dials dials dial_entries }
 {}

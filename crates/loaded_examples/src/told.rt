@@ -5,7 +5,9 @@ ghost use Rattle.loaded_examples.specs.Certificates as certificates;
 ghost use Rattle.loaded_examples.specs.Scripts as scripts;
 ghost use Rattle.loaded_examples.specs.Told.{IsTheLine};
 
-use mg_examples::runs::{a_begun_call_talks, each_obligation_is_needed, two_calls_talk_at_once};
+use mg_examples::runs::{
+    a_begun_call_talks, digits_are_not_enough, each_obligation_is_needed, two_calls_talk_at_once,
+};
 use mg_safety::runs::every_run_is_good;
 use scriptreader::laws::accepted_scripts;
 
@@ -39,4 +41,13 @@ pub fn needed_are_told()
     ensures live { IsTheLine scripts.name_kept certificates.name_kept (no 7 (Some 5) (Some 0) None) }
 {
     each_obligation_is_needed();
+}
+
+/// Of `digits_alone.in` of `tests/cases` the line is `yes 3 6 11`: no obligation asks that a call can be led on.
+pub fn digits_are_told()
+    ensures { IsTheLine scripts.dials certificates.dials (yes 3 6 11) }
+{
+    accepted_scripts();
+    every_run_is_good();
+    digits_are_not_enough();
 }
