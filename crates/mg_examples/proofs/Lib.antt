@@ -48,3 +48,5 @@ pub mod LineSteps
 pub mod DialRun
 pub mod StandsStill
 pub mod DigitsNeeded
+pub mod ManyCommands
+pub mod FewCommandsNeeded

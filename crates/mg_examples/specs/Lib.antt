@@ -15,3 +15,4 @@ pub mod LastsToTheLimit
 pub mod FaultsAreNeeded
 pub mod Dials
 pub mod DigitsAreNotEnough
+pub mod FewCommandsAreNeeded

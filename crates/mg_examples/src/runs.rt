@@ -8,6 +8,7 @@ ghost use Rattle.mg_examples.specs.BegunTalk.{BegunCallTalks};
 ghost use Rattle.mg_examples.specs.CreatedTwice.{created_twice, created_twice_entries};
 ghost use Rattle.mg_examples.specs.DigitsAreNotEnough.{DigitsAreNotEnough};
 ghost use Rattle.mg_examples.specs.FaultsAreNeeded.{FaultsAreNeeded};
+ghost use Rattle.mg_examples.specs.FewCommandsAreNeeded.{FewCommandsAreNeeded};
 ghost use Rattle.mg_examples.specs.LastsToTheLimit.{LastsToTheLimit};
 ghost use Rattle.mg_examples.specs.NameStays.{name_stays};
 ghost use Rattle.mg_examples.specs.NamesKept.{name_kept, name_kept_entries};
@@ -72,4 +73,11 @@ pub fn faults_are_needed()
 /// script that breaks no obligation, a call whose user dialled too little stays where it is, whatever events of it follow.
 pub fn digits_are_not_enough()
     ensures { DigitsAreNotEnough }
+{}
+
+/// That each call can be brought to its end (`mg_safety::runs::calls_can_be_ended`) needs its premise that no state has more than 16 commands: without it the
+/// law is false. Of a script that breaks no obligation, a call waits for ever for the reply to a request of 37 commands: numbers for 36 notes are left, which
+/// are enough for two moves as the law counts them, and too few for the gateway to execute the request.
+pub fn few_commands_are_needed()
+    ensures { FewCommandsAreNeeded }
 {}
