@@ -37,6 +37,30 @@ def most_memory(command, path=None):
     return most
 
 
+def together(commands):
+    """The time by the clock of programs that run beside each other, each a command, the status that it ends with, and a file for its input or nothing, and the
+    processor time of all."""
+    start, processes = time.perf_counter(), []
+    for command, wanted, path in commands:
+        with open(path or os.devnull, "rb") as text:
+            words = [str(word) for word in command]
+            processes.append((subprocess.Popen(words, stdin=text, stdout=subprocess.DEVNULL, stderr=subprocess.DEVNULL), wanted))
+    busy = 0
+    for process, wanted in processes:
+        _, status, usage = os.wait4(process.pid, 0)
+        process.returncode = os.waitstatus_to_exitcode(status)
+        if process.returncode != wanted:
+            sys.exit(f"{process.args} ended with {process.returncode}")
+        busy += usage.ru_utime + usage.ru_stime
+    return time.perf_counter() - start, busy
+
+
+def best(commands, times=5):
+    """The best time by the clock and the best processor time of programs beside each other, of several tries."""
+    tries = [together(commands) for _ in range(times)]
+    return min(clock for clock, _ in tries), min(busy for _, busy in tries)
+
+
 def has_valgrind():
     """Whether instructions can be counted; says so where they can't."""
     if shutil.which("valgrind"):
