@@ -7,6 +7,11 @@ COMMANDS = declarations.COMMANDS
 EVERYWHERE = (declarations.HELP, declarations.VERSION)
 
 
+def files(command):
+    """The files that a command takes, without names of something else."""
+    return [operand for operand in command.operands if operand.kind != declarations.ANY]
+
+
 def options(command):
     """The options of a command, with those that every command has."""
     return (*command.options, *EVERYWHERE)
@@ -90,7 +95,7 @@ def bash():
         everywhere=words(EVERYWHERE),
         valued=" | ".join(valued),
         commands="\n".join(
-            f"    {one.name}) options='{words(options(one))}' kinds='{' '.join(operand.kind for operand in one.operands)}' ;;" for one in COMMANDS
+            f"    {one.name}) options='{words(options(one))}' kinds='{' '.join(operand.kind for operand in files(one))}' ;;" for one in COMMANDS
         ),
         values="\n".join(values),
         names=" ".join(one.name for one in COMMANDS),
@@ -109,6 +114,12 @@ def zsh_action(kind):
     return f"({' '.join(kind)})" if declarations.are_words(kind) else " "
 
 
+def zsh_operand(place, operand):
+    """A file for zsh; names of something else, of which none is offered, come last."""
+    is_name = operand.kind == declarations.ANY
+    return f"'{'*' if is_name else place}:{operand.shown.lower().rstrip('.')}:{zsh_action(operand.kind)}'"
+
+
 def zsh_option(option):
     """An option for zsh."""
     value = f":{option.value.lower()}:{zsh_action(option.kind)}" if option.value else ""
@@ -122,8 +133,7 @@ def zsh():
     lines += ["    )", "    if ((CURRENT == 2)); then", f"        _arguments {' '.join(map(zsh_option, EVERYWHERE))}", "        _describe command commands"]
     lines += ["        return", "    fi", "    local command=$words[2]", "    shift words", "    ((CURRENT--))", "    case $command in"]
     for one in COMMANDS:
-        files = [f"'{place}:{operand.shown.lower()}:{zsh_action(operand.kind)}'" for place, operand in enumerate(one.operands, 1)]
-        parts = [*files, *map(zsh_option, options(one))]
+        parts = [*map(zsh_operand, range(1, 1 + len(one.operands)), one.operands), *map(zsh_option, options(one))]
         lines += [f"    {one.name})", "        _arguments \\", *(f"            {part} \\" for part in parts[:-1]), f"            {parts[-1]}", "        ;;"]
     return "\n".join([*lines, "    esac", "}", "", '_mgtool "$@"', ""])
 
@@ -146,7 +156,7 @@ def fish():
     lines += [fish_option("true", option) for option in EVERYWHERE]
     for one in COMMANDS:
         condition = f"__fish_seen_subcommand_from {one.name}"
-        kinds = dict.fromkeys(operand.kind for operand in one.operands)
+        kinds = dict.fromkeys(operand.kind for operand in files(one))
         lines += [f"complete -c mgtool -n '{condition}' -a '(__fish_complete_suffix .{kind})'" for kind in kinds]
         lines += [fish_option(condition, option) for option in one.options]
     return "\n".join([*lines, ""])

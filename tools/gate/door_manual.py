@@ -7,6 +7,7 @@ SEE_ALSO = (("mgcall", 1), ("mgexplain", 1), ("mgcall\\-check", 1), ("mgcall\\-s
 EXAMPLES = (
     ("All that is wrong with a script, and whether it may run:", "mgtool check my.toml"),
     ("The same for a forge, with a certificate that somebody else keeps:", "mgtool check my.toml --certificate my.json --format sarif > my.sarif"),
+    ("The scenarios of a script as a plan:", "mgtool plan my.toml > my.plan.toml"),
     ("A page with a run:", "mgtool page my.toml my.plan.toml -o my.html"),
 )
 TOOL = "mgtool"

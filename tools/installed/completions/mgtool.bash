@@ -23,6 +23,7 @@ _mgtool() {
     check) options='--certificate --strict --format --pieces --help --version' kinds='toml' ;;
     why) options='--certificate --json --dot --ladder --call --strict --help --version' kinds='toml toml' ;;
     test) options='--certificate --scenarios -k --faults --record --format --help --version' kinds='toml' ;;
+    plan) options='--certificate --scenarios -k --help --version' kinds='toml' ;;
     draft) options='--certificate -o --wide --help --version' kinds='toml' ;;
     coverage) options='--certificate --intents --brief --format --help --version' kinds='toml' ;;
     run) options='--certificate --workers --help --version' kinds='toml toml' ;;
@@ -50,7 +51,7 @@ _mgtool() {
         if [[ $current == -* ]]; then
             COMPREPLY=($(compgen -W "$options" -- "$current"))
         elif [[ $kinds == command ]]; then
-            COMPREPLY=($(compgen -W 'check why test draft coverage run trace page picture watch' -- "$current"))
+            COMPREPLY=($(compgen -W 'check why test plan draft coverage run trace page picture watch' -- "$current"))
         elif ((files < ${#kinds[@]})); then
             _mgtool_files "${kinds[files]}" "$current"
         fi

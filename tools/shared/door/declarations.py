@@ -4,6 +4,7 @@ from collections import namedtuple
 
 TOOL = "mgtool"
 # A file that a command takes: under which key it is kept, how it is shown, what is said of it, whether it has to be there, and the end of such files' names.
+# Where that is ANY it is a name of something else, of which there may be several.
 Operand = namedtuple("Operand", "key shown about is_needed kind")
 # An option: its key, its word, how its value is shown, which is None where it takes none, what is said of it, and what may stand there: words, the end of a
 # file's name, `/` for a folder, the smallest and the largest number, or any word.
@@ -11,8 +12,10 @@ Option = namedtuple("Option", "key word value about kind")
 # A command: its name, what it does in a line, what is said of it below that, its files, its options, and whether it takes a certificate.
 Command = namedtuple("Command", "name about more operands options")
 
+ANY = ()
 SCRIPT = Operand("script", "SCRIPT", "the script, a TOML document; `-` is standard input", True, "toml")
 PLAN = Operand("plan", "PLAN", "the plan of a run, a TOML document; `-` is standard input", False, "toml")
+SCENARIO = Operand("names", "SCENARIO..", "the names of scenarios; without one all are taken", False, ANY)
 CERTIFICATE = Option(
     "certificate", "--certificate", "FILE",
     "The certificate; `-` is standard input. Without it the one that is kept beside the script is taken, and one is drafted where none is kept, or where "
@@ -20,9 +23,11 @@ CERTIFICATE = Option(
     "json",
 )
 CALL = Option("call", "--call", "N", "Of a plan: tell the call with this number alone, from 0, with those that begin within it.", (0, 4_294_967_295))
+SCENARIOS = Option(
+    "scenarios", "--scenarios", "FILE", "The file of scenarios; `-` is standard input. Without it the one beside the script is taken.", "toml",
+)
 TEXT, JSON, SARIF, JUNIT = FORMATS = ("text", "json", "sarif", "junit")
 STANDARD = "-"
-ANY = ()
 
 ABOUT = "check call control scripts, say why, draft certificates, run plans and show what happens"
 RULE = (
@@ -37,7 +42,7 @@ FILES = (
 )
 STATUSES = (
     ("0", "the answer is yes; of draft: it came to a yes; of run, trace and page with a plan: the plan was run"),
-    ("1", "the answer is no, or with --strict a yes under which something is warned of; of coverage: an intent doesn't hold"),
+    ("1", "the answer is no, or with --strict a yes under which something is warned of; of coverage: an intent doesn't hold; of test: a scenario fails; of plan: one can't be done"),
     ("2", "the words ask for nothing; the line names the wrong one"),
     ("3", "a file can't be taken, has mistakes, or can't be written"),
     ("4", "there was no memory"),
@@ -87,7 +92,7 @@ COMMANDS = (
         (SCRIPT,),
         (
             CERTIFICATE,
-            Option("scenarios", "--scenarios", "FILE", "The file of scenarios; `-` is standard input. Without it the one beside the script is taken.", "toml"),
+            SCENARIOS,
             Option("word", "-k", "WORD", "Run the scenarios and ask the intents alone that have this in their names; those of a state are called `intents of STATE`.", ANY),
             Option(
                 "has_faults", "--faults", None,
@@ -97,6 +102,19 @@ COMMANDS = (
             ),
             Option("target", "--record", "FILE", "Write the scenarios with what came of each step into this file, and judge nothing; `-` is standard output.", "toml"),
             Option("format", "--format", "FORM", "How it is told: as text, one JSON value, or JUnit XML. As text where none is named.", (TEXT, JSON, JUNIT)),
+        ),
+    ),
+    Command(
+        "plan",
+        "write scenarios of a script as a plan",
+        "The plan has a call for each scenario, in the order of their file, on lines of its own, with the steps that `mgtool test` takes. It stands on standard "
+        "output, for `mgtool run`, `why`, `trace` and `page`; nothing is judged. What of a scenario can't be done is told on standard error, with status 1: its "
+        "call ends there. Of a No nothing is written: its diagnosis is told on standard error.",
+        (SCRIPT, SCENARIO),
+        (
+            CERTIFICATE,
+            SCENARIOS,
+            Option("word", "-k", "WORD", "Take the scenarios that have this in their names.", ANY),
         ),
     ),
     Command(

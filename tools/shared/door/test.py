@@ -1,45 +1,13 @@
 """`mgtool test`: what people do and what has to come of it, in a file of scenarios, as the proved program runs it, and the intents of that file. It is
 installed too, so it knows nothing of this repository."""
 import json
-import sys
-from types import SimpleNamespace
 
-from shared import asking, explained, progress, scripts
-from shared.door import check, declarations, diagnostics, forms, inputs, intent_mistakes, junit, kept, places
+from shared import asking, explained
+from shared.door import declarations, forms, junit, places, scenario_files
 from shared.door.declarations import JSON, JUNIT, TEXT
-from shared.door.diagnostics import Place, Report, error
-from shared.door.inputs import CERTIFICATE, SCENARIOS, SCRIPT
-from shared.mistakes import scenario_rules
-from shared.scenarios import intended, judging, outcomes, reading, running, told, written
+from shared.scenarios import intended, outcomes, reading, told, written
 
-SUFFIX = ".scenarios.toml"
 PASSED, FAILED = 0, 1
-# How wide the bar is that says how many are at their ends.
-BAR = 40
-# How the script is checked.
-PLAINLY = SimpleNamespace(is_strict=False, pieces=None)
-
-
-def beside(script):
-    """The name of the file of scenarios beside a script of this name."""
-    return script.removesuffix(kept.SUFFIX) + SUFFIX
-
-
-def mistaken(script, given):
-    """The mistakes of a file of scenarios as errors, each place once: those of the scenarios, and those of the intents."""
-    found = [*of_scenarios(script, given)]
-    places_told = {one.place for one in found}
-    found += [one for one in intent_mistakes.mistakes(script, given) if one.place not in places_told]
-    return sorted(found, key=lambda one: one.place)
-
-
-def of_scenarios(script, given):
-    """The mistakes of scenarios as errors."""
-    for one in scenario_rules.mistakes(script.text, given.text):
-        path = f"{one.path}: " if one.path else ""
-        meant = f" (did you mean `{one.meant}`?)" if one.meant is not None else ""
-        rule = f"{one.of} fault {one.fault_number} {one.fault_name}"
-        yield error(given.name, Place(one.at_line, one.at_column), rule, f"{path}{one.says}{meant}")
 
 
 def refused(asked, report):
@@ -52,14 +20,6 @@ def refused(asked, report):
     else:
         forms.write(TEXT, report)
     return report.status
-
-
-def fault_of(script, certificate, given, find):
-    """What a check comes to where no scenario can be run; none where one can."""
-    report = check.report(PLAINLY, script, certificate, find)
-    if found := [*mistaken(script, given)]:
-        return report._replace(status=asking.FILES, line="", diagnostics=[*(report.diagnostics if report.status == asking.FILES else []), *found])
-    return report if report.status else None
 
 
 def wanted(asked, scenarios, intents):
@@ -91,11 +51,7 @@ def record(asked, runner, scenarios, given, tell):
     with asking.written(None if asked.target == declarations.STANDARD else asked.target) as file:
         courses = outcomes.as_they_stand(runner, scenarios, tell)
         file.write(written.recorded(given.text, [*zip(scenarios, courses)], runner.table).decode())
-    flaws = [(scenario, course, judging.undone(course, scenario)) for scenario, course in zip(scenarios, courses)]
-    text = places.Text(given.text)
-    lines = [told.diagnostic(outcomes.Outcome(one, flaw, None, None, None, course), given.name, text) for one, course, flaw in flaws if flaw]
-    print("".join(f"{diagnostics.line(line)}\n" for line in lines), end="", file=sys.stderr)
-    return FAILED if lines else PASSED
+    return scenario_files.tell_undone(scenarios, courses, given)
 
 
 def run(asked, runner, files, find):
@@ -103,10 +59,7 @@ def run(asked, runner, files, find):
     given = files[-1]
     scenarios, tables = reading.read(given.text)
     found, intents = wanted(asked, scenarios, intents_of(files, tables, find))
-    with progress.line() as line:
-        def tell(count, whole):
-            line(f"[{'#' * (BAR * count // whole):.<{BAR}}] {count} of {whole} at their ends")
-
+    with scenario_files.bar() as tell:
         if asked.target is not None:
             return record(asked, runner, found, given, tell)
         how = outcomes.with_faults if asked.has_faults else outcomes.plain
@@ -116,22 +69,10 @@ def run(asked, runner, files, find):
 
 def done(asked, find):
     """Runs what is asked for; gives the status."""
-    if asked.scenarios is None and asked.script == declarations.STANDARD:
-        asked.refuse("the scenarios of a script from standard input have to be named, by --scenarios")
     if asked.target is not None and asked.has_faults:
         asked.refuse("--record and --faults don't go together")
-    names = {SCRIPT: asked.script, CERTIFICATE: asked.certificate, SCENARIOS: asked.scenarios or beside(asked.script)}
-    given, wrong = inputs.read_all(names)
-    if SCRIPT not in given and asked.scenarios is None:
-        wrong = [one for one in wrong if one.file != names[SCENARIOS]]
-    if wrong:
-        return refused(asked, Report(asked.script, "", asking.FILES, wrong, {}))
-    script, scenarios = given[SCRIPT], given[SCENARIOS]
-    certificate = kept.of(script, given.get(CERTIFICATE), find)
-    if (report := fault_of(script, certificate, scenarios, find)) is not None:
+    files, report = scenario_files.taken(asked, find)
+    if report is not None:
         return refused(asked, report)
-    runner = running.Runner(find("mgexplain"), script.text, certificate.text, scripts.read(script.text))
-    try:
-        return run(asked, runner, (script, certificate, scenarios), find)
-    except running.NoFacts as fault:
-        return asking.stop(f"{scenarios.name}: {fault.line or 'no facts are told'}", fault.status)
+    with scenario_files.runner(files, find) as runner:
+        return run(asked, runner, files, find)

@@ -72,9 +72,13 @@ def parser(tool, command):
     name = f"{tool} {command.name}"
     about = f"{plain(command.about)[0].upper()}{plain(command.about)[1:]}. {plain(command.more)}"
     made = Parser(name, usage=f"{tool} {declarations.usage(command)}", description=about, formatter_class=layout, allow_abbrev=False, add_help=False)
-    files = made.add_argument_group("files")
+    files, names = made.add_argument_group("files"), made.add_argument_group("names")
     for operand in command.operands:
-        files.add_argument(operand.key, metavar=operand.shown, help=plain(operand.about), type=named, nargs=None if operand.is_needed else "?")
+        how = {"metavar": operand.shown, "help": plain(operand.about), "type": named}
+        if operand.kind == declarations.ANY:
+            names.add_argument(operand.key, nargs="*", default=(), **how)
+        else:
+            files.add_argument(operand.key, nargs=None if operand.is_needed else "?", **how)
     options = made.add_argument_group("options")
     for option in command.options:
         is_needed = option.key in declarations.NEEDED.get(command.name, ())

@@ -30,14 +30,23 @@ def epochs(steps):
 
 
 def quoted(texts):
+    """Texts as those of a list of TOML."""
+    return [f'"{text}"' for text in texts]
+
+
+def listed(texts):
     """Texts as a list of TOML."""
-    return f"[{', '.join(f'{chr(34)}{text}{chr(34)}' for text in texts)}]"
+    return f"[{', '.join(quoted(texts))}]"
+
+
+def numbers(first, width):
+    """The numbers of so many lines from one on, as a list of TOML."""
+    return f"[{', '.join(str(first + place) for place in range(width))}]"
 
 
 def call(first, width, steps):
     """A call of a plan on lines from a number on."""
-    lines = ", ".join(str(first + place) for place in range(width))
-    return f"[[call]]\nlines = [{lines}]\nepochs = [{', '.join(map(quoted, epochs(steps)))}]\n"
+    return f"[[call]]\nlines = {numbers(first, width)}\nepochs = [{', '.join(map(listed, epochs(steps)))}]\n"
 
 
 def plan(width, calls):
