@@ -1,16 +1,18 @@
 """A certificate that is made by doing what is said of a No, from No to No. An entry is put in so that it brings no configuration but the one that is lacking:
 a wider one where that holds of it, else the entry of one point. So, from nothing, every configuration of a draft is one that a call comes to by the check's
-own steps, and a No of K3, K4, K5 or K7 is about the script. It is installed too, so it knows nothing of this repository."""
+own steps, and a No of K3, K4, K5 or K7 is about the script. A whole draft goes on past K3 and K4: it is made of the script with each pair of lines marked in
+each state and no state as an end, in which calls take the same steps. It is installed too, so it knows nothing of this repository."""
+import itertools
 import json
 import sys
 from collections import namedtuple
 
 from shared import asking, certificates, explained, fronts, progress, scripts
 
-WIDE, TARGET = "--wide", "-o"
-USAGE = f"SCRIPT [CERTIFICATE] [{TARGET} FILE] [{WIDE}]"
-# What is asked for: the files' names, None where one isn't named, and whether entries are joined.
-Wanted = namedtuple("Wanted", "script certificate target is_wide")
+WIDE, WHOLE, TARGET = "--wide", "--whole", "-o"
+USAGE = f"SCRIPT [CERTIFICATE] [{TARGET} FILE] [{WIDE}] [{WHOLE}]"
+# What is asked for: the files' names, None where one isn't named, whether entries are joined, and whether K3 and K4 end nothing.
+Wanted = namedtuple("Wanted", "script certificate target is_wide is_whole", defaults=(False,))
 
 
 def wanted(given, usage):
@@ -19,11 +21,11 @@ def wanted(given, usage):
     for word in words:
         if word == TARGET:
             targets.append(next(words, ""))
-        elif word != WIDE:
+        elif word not in (WIDE, WHOLE):
             files.append(word)
     if not 1 <= len(files) <= 2 or len(targets) > 1 or any(not name or name.startswith("-") for name in files + targets):
         asking.stop(f"usage: {usage}", asking.WORDS)
-    return Wanted(*(files + [None])[:2], *(targets or [None]), WIDE in given)
+    return Wanted(*(files + [None])[:2], *(targets or [None]), WIDE in given, WHOLE in given)
 
 
 def page_of(program, texts):
@@ -43,6 +45,20 @@ def begun(names, texts):
         return asking.stop(f"{' and '.join(filter(None, names))}: not as this Python reads them: {error}", asking.FILES)
 
 
+def toml(value):
+    """A value as TOML."""
+    if isinstance(value, dict):
+        return f"{{{', '.join(f'{key} = {toml(one)}' for key, one in value.items())}}}"
+    return f"[{', '.join(map(toml, value))}]" if isinstance(value, list) else json.dumps(value)
+
+
+def unjudged(script):
+    """The text of a script in which calls take the steps that they take in this one, and of which K3 and K4 ask nothing."""
+    pairs = ["-".join(pair) for pair in itertools.combinations(script["lines"], 2)]
+    states = [{**{key: value for key, value in state.items() if key != "end"}, "talk": pairs} for state in script["state"]]
+    return "".join(f"{key} = {toml(value)}\n" for key, value in {**script, "state": states}.items()).encode()
+
+
 def became(end, is_wide):
     """The line on what became of a draft."""
     after = f"after {end.count} edit{'' if end.count == 1 else 's'}"
@@ -55,6 +71,8 @@ def became(end, is_wide):
         return f"{end.page['line']} {after}: what there is to put in was put in before, and is refused again"
     if end.page["status"] == 3:
         return f"{end.page['line']} {after}"
+    if end.is_whole:
+        return f"{end.page['line']} {after}: all that calls come to is there"
     return f"{end.page['line']} {after}: {end.page['line'].split()[1]} asks for what no entry mends, and a person has to decide"
 
 
@@ -67,16 +85,19 @@ def made(program, texts, asked, tell):
     if page_of(program, texts)["status"] == 3:
         asking.stop(explained.in_words(program, [], texts)[1].rstrip("\n"), 1)
     script, entries = begun(asked[:2], texts)
+    drafted_of = unjudged(script) if asked.is_whole else texts[0]
 
-    def page_of_text(text):
-        return page_of(program, [texts[0], text.encode()])
+    def page_of_text(text, of=drafted_of):
+        return page_of(program, [of, text.encode()])
 
     end = fronts.Draft(script, entries, asked.is_wide, page_of_text, told).followed()
-    if not asked.is_wide or end.page["status"]:
+    if asked.is_wide and not end.page["status"]:
+        fewer = certificates.joined(script, end.entries)
+        page = page_of_text(certificates.text(fewer))
+        end = end if page["status"] else end._replace(page=page, entries=fewer)
+    if not asked.is_whole or end.is_again or end.is_full:
         return end
-    fewer = certificates.joined(script, end.entries)
-    page = page_of_text(certificates.text(fewer))
-    return end if page["status"] else end._replace(page=page, entries=fewer)
+    return end._replace(page=page_of_text(certificates.text(end.entries), texts[0]), is_whole=not end.page["status"])
 
 
 def drafted(asked, find):

@@ -20,9 +20,9 @@ from shared import certificates
 LENGTH, MOST_FRONTS, PATIENCE = 16, 4, 1
 # How the questions about an entry ended: all that its steps lead to is known, or a point of it breaks an obligation.
 CLOSED, BROKEN = "closed", "broken"
-# What a draft comes to: the last page, the entries that it is about, how many configurations were put in, and whether what the page says to put in was put in
-# before, or finds no room.
-Followed = namedtuple("Followed", "page entries count is_again is_full")
+# What a draft comes to: the last page, the entries that it is about, how many configurations were put in, whether what the page says to put in was put in
+# before, or finds no room, and whether all that calls come to is there, though the page may be a No.
+Followed = namedtuple("Followed", "page entries count is_again is_full is_whole", defaults=(False,))
 
 
 def lacking(page):

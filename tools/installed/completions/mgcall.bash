@@ -52,7 +52,7 @@ _mgcall() {
         if [[ ${COMP_WORDS[COMP_CWORD - 1]} == -o ]]; then
             _mgcall_files json "$current"
         elif ((place > 1)) && [[ $current == -* ]]; then
-            COMPREPLY=($(compgen -W '-o --wide' -- "$current"))
+            COMPREPLY=($(compgen -W '-o --wide --whole' -- "$current"))
         else
             _mgcall_over_files "$current" "$place" toml json
         fi

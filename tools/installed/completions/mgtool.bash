@@ -24,7 +24,7 @@ _mgtool() {
     why) options='--certificate --json --dot --ladder --call --strict --help --version' kinds='toml toml' ;;
     test) options='--certificate --scenarios -k --faults --record --format --help --version' kinds='toml' ;;
     plan) options='--certificate --scenarios -k --help --version' kinds='toml' ;;
-    draft) options='--certificate -o --wide --help --version' kinds='toml' ;;
+    draft) options='--certificate -o --wide --whole --help --version' kinds='toml' ;;
     coverage) options='--certificate --intents --brief --format --help --version' kinds='toml' ;;
     run) options='--certificate --workers --help --version' kinds='toml toml' ;;
     trace) options='--certificate --call --messages --pcap --help --version' kinds='toml toml' ;;

@@ -41,6 +41,7 @@ complete -c mgtool -n '__fish_seen_subcommand_from draft' -a '(__fish_complete_s
 complete -c mgtool -n '__fish_seen_subcommand_from draft' -l certificate -r -d 'The certificate'
 complete -c mgtool -n '__fish_seen_subcommand_from draft' -s o -r -d 'Write it into this file, and keep none'
 complete -c mgtool -n '__fish_seen_subcommand_from draft' -l wide -d 'Join entries of a state that differ in one component alone, which adds no configuration'
+complete -c mgtool -n '__fish_seen_subcommand_from draft' -l whole -d 'Go on past a No of K3 or K4, until all that calls come to is there'
 complete -c mgtool -n '__fish_seen_subcommand_from coverage' -a '(__fish_complete_suffix .toml)'
 complete -c mgtool -n '__fish_seen_subcommand_from coverage' -l certificate -r -d 'The certificate'
 complete -c mgtool -n '__fish_seen_subcommand_from coverage' -l intents -r -d 'The file with intents'

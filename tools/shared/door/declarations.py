@@ -127,6 +127,7 @@ COMMANDS = (
             CERTIFICATE,
             Option("target", "-o", "FILE", "Write it into this file, and keep none; `-` is standard output.", "json"),
             Option("is_wide", "--wide", None, "Join entries of a state that differ in one component alone, which adds no configuration.", None),
+            Option("is_whole", "--whole", None, "Go on past a No of K3 or K4, until all that calls come to is there.", None),
         ),
     ),
     Command(

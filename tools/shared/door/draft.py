@@ -20,10 +20,10 @@ def started(asked, beside):
 
 def made(asked, script, named, beside, find):
     """The draft: from the certificate that is named, or from the one that is kept."""
-    start = named.text if named is not None else started(asked, beside)
+    start, how = named.text if named is not None else started(asked, beside), {"is_wide": asked.is_wide, "is_whole": asked.is_whole}
     if named is not None or start is not None and beside.is_for(script.text):
-        return kept.made(script, start, asked.is_wide, find)[1]
-    return kept.drafted_from(script, start, asked.is_wide, find)
+        return kept.made(script, start, find, **how)[1]
+    return kept.drafted_from(script, start, find, **how)
 
 
 def written(asked, script, named, beside, find):

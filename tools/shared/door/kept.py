@@ -71,9 +71,9 @@ def has_mistakes(script):
     return bool(told.mistakes({inputs.SCRIPT: script.text}))
 
 
-def made(script, start, is_wide, find):
+def made(script, start, find, is_wide=False, is_whole=False):
     """What drafting comes to, from a certificate on."""
-    asked = drafting.Wanted(script.name, None, None, is_wide)
+    asked = drafting.Wanted(script.name, None, None, is_wide, is_whole)
     with progress.line() as tell:
         end = drafting.made(find("mgexplain"), [script.text, start], asked, tell)
     return end, Draft(certificates.text(end.entries).encode(), drafting.became(end, is_wide), end.page["status"])
@@ -89,13 +89,13 @@ def is_readable(script, certificate):
     return not told.mistakes({inputs.SCRIPT: script.text, CERTIFICATE: certificate})
 
 
-def drafted_from(script, start, is_wide, find):
+def drafted_from(script, start, find, **how):
     """A draft of a script from what stands: from nothing where nothing does, where that isn't of this script, or where it comes to what no call comes to."""
     if start is not None and is_readable(script, start):
-        end, draft = made(script, start, is_wide, find)
+        end, draft = made(script, start, find, **how)
         if not has_too_much(end):
             return draft
-    return made(script, EMPTY, is_wide, find)[1]
+    return made(script, EMPTY, find, **how)[1]
 
 
 def tell(draft, name):
@@ -116,7 +116,7 @@ def kept(script, find):
         if beside.is_for(script.text):
             return given
         start = given.text
-    draft = drafted_from(script, start, False, find)
+    draft = drafted_from(script, start, find)
     tell(draft, beside.certificate)
     beside.keep(script.text, draft.text)
     return Given(CERTIFICATE, os.fspath(beside.certificate), draft.text)
@@ -130,7 +130,7 @@ def of(script, named, find):
         return nothing()
     if script.name != inputs.STANDARD_INPUT:
         return kept(script, find)
-    draft = drafted_from(script, None, False, find)
+    draft = drafted_from(script, None, find)
     tell(draft, NOWHERE)
     return Given(CERTIFICATE, NOWHERE, draft.text)
 
