@@ -2,7 +2,7 @@
 from collections import namedtuple
 
 from shared.scenarios import judging, variants
-from shared.scenarios.courses import Course
+from shared.scenarios.courses import BETWEEN, Course
 
 # What a scenario comes to: it, what is wrong first (none where nothing is), the variant of which that is and how many there are and fail (none of a scenario as
 # it stands), and the course that is told of.
@@ -20,11 +20,21 @@ def as_they_stand(runner, scenarios, tell):
     return settled(runner, [Course(runner.table, scenario.acts, True, False) for scenario in scenarios], tell)
 
 
+def reports(runner, courses):
+    """The lines of the report on each course, from plans that have no step more than what was done. In a plan all gateways restart together, so courses of one
+    plan restart equally often."""
+    found, plans = {}, [course.exact() for course in courses]
+    for count in {steps.count(BETWEEN) for steps in plans}:
+        places = [place for place, steps in enumerate(plans) if steps.count(BETWEEN) == count]
+        found.update(zip(places, runner.told([plans[place] for place in places])))
+    return [found[place] for place in range(len(plans))]
+
+
 def plain(runner, scenarios, tell):
-    """What scenarios come to as they stand. The reports are those of a plan that has no step more than what was done."""
+    """What scenarios come to as they stand."""
     courses = as_they_stand(runner, scenarios, tell)
-    reports = runner.told([course.exact() for course in courses]) if any(scenario.report is not None for scenario in scenarios) else [None] * len(courses)
-    for scenario, course, lines in zip(scenarios, courses, reports):
+    told = reports(runner, courses) if any(scenario.report is not None for scenario in scenarios) else [None] * len(courses)
+    for scenario, course, lines in zip(scenarios, courses, told):
         flaw = judging.of_scenario(scenario, course, runner.table)
         if flaw is None and lines is not None:
             flaw = judging.reported(scenario, course, lines[-1])
