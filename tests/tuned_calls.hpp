@@ -1,6 +1,7 @@
 // The calls of `tests/tuned_runner.cpp`: for each its agent and its part of the gateway, and what a step does to both.
 #pragma once
 #include "tuned_input.hpp"
+#include <memory>
 #include <mutex>
 
 // ---- calls: for each its agent, and its part of the gateway
@@ -24,6 +25,8 @@ enum class Phase : Place { RESTS, AWAITS_REPLY, AWAITS_PASS };
 struct Row { Place context, mode, remote; };
 struct Line { uint32_t number, request; uint64_t symbols; uint16_t alternatives; Place list, playing, length; bool is_off, is_completed; };
 struct Retired { uint32_t events, idle; Place state; };
+// The step at which a call met restarts, and the association that it found.
+struct Met { const Step* step; uint32_t association; };
 struct alignas(64) Call {
     // the agent
     uint32_t number, association, next, first;
@@ -34,7 +37,8 @@ struct alignas(64) Call {
     const Step* step;
     Event* transcript;
     Retired* retired;
-    uint32_t went_through, events, idle, begun;
+    Met* met;
+    uint32_t went_through, events, idle, begun, restarted;
     // its link: the last request that was executed, the notes that were sent, and how many of them can't be the oldest that waits
     Note* notes;
     uint32_t executed, sent, settled;
@@ -434,11 +438,41 @@ static bool occurs(const Script& script, Call& call, const Step& step, Event& ev
     default: return false;
     }
 }
-static void take(Shard& shard, Call& call, const Step& step) {
-    if (call.known != shard.association) meet_restart(shard, call);
-    Event event{call.number, 0, step.line == NONE ? 0 : call.lines[step.line].number, step.detail, step.verb, 0};
-    if (!occurs(*shard.script, call, step, event)) { call.idle++; return; }
-    call.events++;
+static bool happens(const Shard& shard, Call& call, Event& event) {
+    const Step& step = *call.step;
+    event = {call.number, 0, step.line == NONE ? 0 : call.lines[step.line].number, step.detail, step.verb, 0};
+    bool does = occurs(*shard.script, call, step, event);
+    ++(does ? call.events : call.idle);
+    return does;
+}
+static void take(Shard& shard, Call& call) {
+    if (call.known != shard.association) {
+        meet_restart(shard, call);
+        call.met[call.restarted++] = {call.step, shard.association};
+    }
+    Event event;
+    if (!happens(shard, call, event)) return;
     call.transcript[call.went_through++] = event;
     shard.history[shard.happened++] = event;
+}
+
+// ---- a call alone once more
+
+// A gateway on which calls run one after the other, each with nothing but its lines. It keeps no history: each event is compared as it happens.
+struct Alone { Shard gateway; Call call; std::unique_ptr<Note[]> notes; std::unique_ptr<Retired[]> retired; };
+// a step of a call alone, and whether it comes to what the same step came to in the run, whose transcript both calls have
+static bool take_again(const Shard& gateway, Call& call, const Call& run) {
+    if (call.known != gateway.association) meet_restart(gateway, call);
+    Event event;
+    if (!happens(gateway, call, event)) return true;
+    return call.went_through < run.went_through && are_same(call.transcript[call.went_through++], event);
+}
+// what a line of the report tells of a call that is retired, or of one that stands
+template <class Told> static bool are_told_same(const Told& one, const Told& other) {
+    return one.events == other.events && one.idle == other.idle && one.state == other.state;
+}
+// whether two calls came to the same: as many events, and the same lines of the report
+static bool came_to_same(const Call& one, const Call& other) {
+    return one.went_through == other.went_through && are_told_same(one, other) && one.phase == other.phase && one.association == other.association
+        && std::equal(one.retired, one.retired + one.begun, other.retired, other.retired + other.begun, are_told_same<Retired>);
 }

@@ -305,7 +305,8 @@ constexpr uint16_t NO_DETAIL = 0xFFFF;
 // The number of a message is 0 where none is given. The detail is a symbol, a signal, or the place of the command that is refused.
 struct Step { uint32_t number; uint16_t detail; Verb verb; Place line; };
 struct PlanCall { uint32_t lines[NAMES], first_step, first_end, epochs, notes, begins; };
-struct Plan { std::vector<PlanCall> calls; std::vector<Step> steps; std::vector<uint32_t> ends; uint32_t shards = 1, epochs = 0; };
+// `restarts` has for each epoch its steps that are restarts.
+struct Plan { std::vector<PlanCall> calls; std::vector<Step> steps; std::vector<uint32_t> ends, restarts; uint32_t shards = 1, epochs = 0; };
 
 static uint32_t number_in(Text text) {
     uint32_t number = 0;
@@ -342,15 +343,18 @@ static Plan read_plan(const Script& script, const Toml& toml) {
         Place line = 0;
         toml.each(toml.find(table, "lines"), [&](const Node& node) { call.lines[line++ % NAMES] = number_in(toml.text(node)); });
         toml.each(toml.find(table, "epochs"), [&](const Node& epoch) {
+            uint32_t restarts = 0;
             toml.each(&epoch, [&](const Node& node) {
                 Step step = read_step(script, toml.text(node));
                 // an event of a line raises at most one note, and a request one for each line
                 call.notes += step.line != NONE ? 1 : step.verb == Verb::EXECUTE ? uint32_t(script.lines.size()) : 0;
                 call.begins += step.verb == Verb::BEGIN;
+                restarts += step.verb == Verb::RESTART;
                 plan.steps.push_back(step);
             });
             plan.ends.push_back(uint32_t(plan.steps.size()));
-            call.epochs++;
+            plan.restarts.resize(std::max(plan.restarts.size(), size_t(call.epochs) + 1));
+            plan.restarts[call.epochs++] += restarts;
         });
         plan.epochs = std::max(plan.epochs, call.epochs);
         plan.calls.push_back(call);

@@ -1,8 +1,11 @@
 // A runner of calls that is written for speed, which nobody proved, for `make bench` to compare with; `make test` asks that it gives the lines of `mgcall run`.
-//     tuned_runner run [--workers N]
+//     tuned_runner run [--workers N] [--verify]
 // reads the input of `mgcall run` and writes the same report. It keeps what a run keeps: the history of each shard and what each call went through, which it
 // compares, and one history of all. It takes a script as checked and passes the certificate over, and knows of faults those of the run alone. Its documents are
 // read in `tuned_input.hpp`, and its calls go on in `tuned_calls.hpp`.
+//
+// `mgcall run` tells of each call what is proved to be so of a run of that call alone. There is no such law here: with `--verify` each call runs alone once
+// more, and what it comes to is compared, so as much is known of each line.
 //
 // What makes it fast, and why that may be done:
 // - A call is one record, in one place for its agent and its part of the gateway; each step finds it by its number, and nothing else is looked up.
@@ -15,7 +18,6 @@
 // - A shard's lock is held for a turn of eight steps and not for each.
 #include "tuned_calls.hpp"
 #include <atomic>
-#include <memory>
 #include <thread>
 #include <unistd.h>
 
@@ -64,6 +66,9 @@ struct Queue {
 
 // ---- a run
 
+// Nothing, but where the linker is told what it is: a call alone leaves out its first step then, so that a trial shows that this is found.
+extern "C" const char wrong_replay[] __attribute__((weak));
+
 template <class Job> static void side_by_side(size_t workers, Job job) {
     std::vector<std::thread> threads;
     for (size_t worker = 1; worker < workers; worker++) threads.emplace_back(job, worker);
@@ -80,13 +85,15 @@ class Run {
 public:
     Run(const Script& from, const Plan& of, size_t on)
         : script(from), plan(of), workers(on), calls(new Call[of.calls.size() + 1]), shards(new Shard[of.shards]) {
-        size_t notes = 0, begins = 0;
+        for (uint32_t asked : plan.restarts) starts.push_back(starts.back() + asked + 1);
+        restarts = plan.epochs ? starts.back() - 2 : 0;
+        size_t notes = 0, begins = 0, met = 0;
         for (const PlanCall& call : plan.calls) { notes += call.notes; begins += call.begins; }
-        for (const Step& step : plan.steps) restarts += step.verb == Verb::RESTART;
-        restarts += plan.epochs ? plan.epochs - 1 : 0;
+        for (size_t number = 0; number < plan.calls.size(); number++) met += most_met(number);
         events.reset(new Event[2 * plan.steps.size() + restarts * plan.shards]);
         all_notes.reset(new Note[notes]);
         all_retired.reset(new Retired[begins]);
+        all_met.reset(new Met[met]);
         open();
     }
     void play() {
@@ -125,6 +132,22 @@ public:
         });
         return all;
     }
+    // whether each call that runs alone once more comes to what it came to in the run
+    bool is_verified() const {
+        uint32_t notes = 0, begins = 0;
+        for (const PlanCall& call : plan.calls) { notes = std::max(notes, call.notes); begins = std::max(begins, call.begins); }
+        std::atomic<size_t> next{0};
+        std::atomic<bool> same{true};
+        side_by_side(std::min(workers, plan.calls.size()), [&](size_t) {
+            Alone alone;
+            alone.gateway.script = &script;
+            alone.gateway.line_bits = (1u << script.lines.size()) - 1;
+            alone.notes.reset(new Note[notes]);
+            alone.retired.reset(new Retired[begins]);
+            for (size_t number; (number = next++) < plan.calls.size();) if (!goes_alike(alone, number)) same = false;
+        });
+        return same;
+    }
     std::string report() const {
         std::string text;
         text.reserve(64 * plan.calls.size());
@@ -152,22 +175,30 @@ private:
     std::unique_ptr<Event[]> events;
     std::unique_ptr<Note[]> all_notes;
     std::unique_ptr<Retired[]> all_retired;
+    std::unique_ptr<Met[]> all_met;
+    // the association that each epoch starts in, and one more
+    std::vector<uint32_t> starts{1};
 
     // those that are steps of the plan
     size_t asked_restarts() const { return restarts + 1 - std::max(plan.epochs, 1u); }
     size_t steps_of(size_t number) const {
         return (number + 1 < plan.calls.size() ? plan.calls[number + 1].first_step : plan.steps.size()) - plan.calls[number].first_step;
     }
+    const Step* end_of(size_t number, uint32_t epoch) const { return plan.steps.data() + plan.ends[plan.calls[number].first_end + epoch]; }
+    size_t most_met(size_t number) const { return std::min(restarts, steps_of(number)); }
     void open() {
         Note* notes = all_notes.get();
         Retired* retired = all_retired.get();
+        Met* met = all_met.get();
         for (size_t number = 0; number < plan.calls.size(); number++) {
             const PlanCall& planned = plan.calls[number];
             open_call(calls[number], uint32_t(number), planned);
             calls[number].notes = notes;
             calls[number].retired = retired;
+            calls[number].met = met;
             notes += planned.notes;
             retired += planned.begins;
+            met += most_met(number);
         }
         Event* history = events.get() + plan.steps.size();
         for (size_t shard = 0; shard < plan.shards; shard++) {
@@ -178,10 +209,10 @@ private:
             history += restarts;
         }
     }
-    void open_call(Call& call, uint32_t number, const PlanCall& planned) {
+    void open_call(Call& call, uint32_t number, const PlanCall& planned) const {
         call.number = number;
         call.association = call.known = call.next = 1;
-        call.went_through = call.events = call.idle = call.begun = 0;
+        call.went_through = call.events = call.idle = call.begun = call.restarted = 0;
         call.transcript = events.get() + planned.first_step;
         call.step = plan.steps.data() + planned.first_step;
         call.request.number = 0;
@@ -208,7 +239,7 @@ private:
     bool turn(Shard& shard, Call& call, const Step* end) {
         std::unique_lock<std::mutex> held(shard.lock);
         for (int left = TURN; left && call.step < end; left--, call.step++) {
-            if (call.step->verb != Verb::RESTART) { take(shard, call, *call.step); continue; }
+            if (call.step->verb != Verb::RESTART) { take(shard, call); continue; }
             held.unlock();
             restart_all();
             held.lock();
@@ -216,16 +247,15 @@ private:
         return call.step < end;
     }
     void play_epoch(uint32_t epoch) {
-        auto end_of = [&](size_t number) { return plan.steps.data() + plan.ends[plan.calls[number].first_end + epoch]; };
         std::vector<std::unique_ptr<Queue>> queues;
         for (size_t shard = 0; shard < plan.shards; shard++) queues.push_back(std::make_unique<Queue>(plan.calls.size() / plan.shards + 1));
         for (size_t number = 0; number < plan.calls.size(); number++)
-            if (epoch < plan.calls[number].epochs && calls[number].step < end_of(number)) queues[number % plan.shards]->put(uint32_t(number));
+            if (epoch < plan.calls[number].epochs && calls[number].step < end_of(number, epoch)) queues[number % plan.shards]->put(uint32_t(number));
         side_by_side(workers, [&](size_t worker) {
             for (size_t place = 0; place < plan.shards; place++) {
                 size_t shard = (worker * plan.shards / workers + place) % plan.shards;
                 for (uint32_t number; queues[shard]->take(number);)
-                    if (turn(shards[shard], calls[number], end_of(number))) queues[shard]->put(number);
+                    if (turn(shards[shard], calls[number], end_of(number, epoch))) queues[shard]->put(number);
             }
         });
     }
@@ -238,6 +268,31 @@ private:
             if (places[number] >= call.went_through || !are_same(call.transcript[places[number]++], event)) return false;
         }
         return shard.restarts.size() == restarts;
+    }
+    // A call alone, by its steps of the plan. Its own restarts are steps, those between epochs come by themselves, and the others, of which there are no more
+    // than the plan has, where it met them in the run.
+    bool goes_alike(Alone& alone, size_t number) const {
+        const Call& run = calls[number];
+        Call& call = alone.call;
+        uint32_t& association = alone.gateway.association;
+        open_call(call, uint32_t(number), plan.calls[number]);
+        call.notes = alone.notes.get();
+        call.retired = alone.retired.get();
+        call.step += wrong_replay != nullptr;
+        const Met *met = run.met, *last = met + run.restarted;
+        for (uint32_t epoch = 0; epoch < plan.calls[number].epochs; epoch++) {
+            association = starts[epoch];
+            for (const Step* end = end_of(number, epoch); call.step < end; call.step++) {
+                if (call.step->verb == Verb::RESTART) { association++; continue; }
+                if (met < last && met->step == call.step) {
+                    if (met->association < association) return false;
+                    association = met++->association;
+                }
+                if (!take_again(alone.gateway, call, run)) return false;
+            }
+            if (association >= starts[epoch + 1]) return false;
+        }
+        return met == last && came_to_same(call, run);
     }
     // the events of a shard in one association
     std::pair<const Event*, size_t> part_of(const Shard& shard, size_t part) const {
@@ -286,8 +341,10 @@ static std::vector<std::pair<size_t, size_t>> sections(Text text) {
 }
 
 int main(int count, char** words) {
+    bool verifies = count > 2 && Text(words[count - 1]) == "--verify";
+    count -= verifies;
     bool are_words = (count == 2 || count == 4) && Text(words[1]) == "run" && (count == 2 || Text(words[2]) == "--workers");
-    if (!are_words) stop("usage: tuned_runner run [--workers N]", 2);
+    if (!are_words) stop("usage: tuned_runner run [--workers N] [--verify]", 2);
     uint32_t workers = count == 4 ? number_in(words[3]) : 1;
     auto [bytes, size] = read_all();
     auto parts = sections({bytes, size});
@@ -300,6 +357,7 @@ int main(int count, char** words) {
     run.play();
     if (!run.agrees()) stop("run fault 3 Disagree", 5);
     auto history = run.merged();
+    if (verifies && !run.is_verified()) stop("run fault 3 Disagree", 5);
     std::string report = run.report();
     std::fwrite(report.data(), 1, report.size(), stdout);
     std::free(bytes);

@@ -1,5 +1,7 @@
 """What a run costs beside a tuned runner in C++, as somebody writes it who knows the domain and the machine (`tests/tuned_runner.cpp`): whole processes, by
-instructions and by processor time, on inputs that are made here; an event with many calls beside one with few; and four workers beside four runs."""
+instructions and by processor time, on inputs that are made here; an event with many calls beside one with few; and four workers beside four runs. The tuned
+runner runs each call alone once more and compares, since it has no law that tells as much of each line; beside that it leaves this out. A program stands with
+the words behind those of a run."""
 import shutil
 import subprocess
 import tempfile
@@ -11,6 +13,8 @@ from shared import checks, measuring, run_inputs
 SOURCE = Path(__file__).resolve().parents[2] / "tests/tuned_runner.cpp"
 # How a run on no worker ends: all is read and checked, and nothing is run.
 BAD_WORKERS = 5
+VERIFIES = "--verify"
+NAMES = "mgcall run", "tuned runner with each call alone once more", "tuned runner"
 
 
 def build(folder):
@@ -18,17 +22,28 @@ def build(folder):
     if not shutil.which("g++"):
         print("left out, since there is no g++: what is compared with a tuned runner")
         return None
-    program = Path(folder) / "tuned_runner"
-    subprocess.run(["g++", "-std=c++17", "-O3", "-static", "-pthread", "-o", program, SOURCE], check=True)
+    subprocess.run(["g++", "-std=c++17", "-O3", "-pthread", "-c", "-o", compiled(folder), SOURCE], check=True)
+    return link(folder, "tuned_runner")
+
+
+def compiled(folder):
+    """Where the tuned runner stands before it is linked."""
+    return Path(folder) / "tuned_runner.o"
+
+
+def link(folder, name, *words):
+    """The tuned runner that was built in this folder, linked with these words."""
+    program = Path(folder) / name
+    subprocess.run(["g++", "-static", "-pthread", *words, "-o", program, compiled(folder)], check=True)
     return program
 
 
 @contextmanager
 def prepared():
-    """A folder, and the two programs; of these only one where the other can't be built."""
+    """A folder, and the programs; of these only the first where the tuned one can't be built."""
     with tempfile.TemporaryDirectory() as folder:
         tuned = build(folder)
-        yield Path(folder), [checks.PROGRAM, *([tuned] if tuned else [])]
+        yield Path(folder), [(checks.PROGRAM,), *([(tuned, VERIFIES), (tuned,)] if tuned else [])]
 
 
 def write(folder, kind, calls, shards=1):
@@ -41,7 +56,8 @@ def write(folder, kind, calls, shards=1):
 
 def run_of(program, workers):
     """The words of a run, and the status that it ends with."""
-    return [program, "run", "--workers", workers], BAD_WORKERS if workers == 0 else 0
+    first, *more = program
+    return [first, "run", "--workers", workers, *more], BAD_WORKERS if workers == 0 else 0
 
 
 def instructions(program, path, workers):
@@ -51,35 +67,38 @@ def instructions(program, path, workers):
 
 def seconds(program, path, workers):
     """The processor time of a run."""
-    (_, *words), status = run_of(program, workers)
-    return measuring.used(path, program, *words, times=5, wanted=(status,))[0]
+    (first, *words), status = run_of(program, workers)
+    return measuring.used(path, first, *words, times=5, wanted=(status,))[0]
 
 
 def beside(costs):
-    """What an event costs with `mgcall run` and with the tuned runner, and how many times."""
-    return " beside ".join(f"{cost:.0f}" for cost in costs) + (f", ratio {costs[0] / costs[1]:.2f}" if len(costs) > 1 else "")
+    """What an event costs with `mgcall run`, and beside it with the others, and how many times."""
+    own, *others = costs
+    told = " and ".join(f"{cost:.0f}, ratio {own / cost:.2f}" for cost in others)
+    return f"{own:.0f} beside {told}" if told else f"{own:.0f}"
 
 
 def tuned_runs():
-    """Whole runs on one worker beside the tuned runner: instructions and processor time an event, with reading and check and without."""
-    with prepared() as (folder, both):
+    """Whole runs on one worker beside the tuned runner, with each call alone once more and without: instructions and processor time an event, with reading and
+    check and without."""
+    with prepared() as (folder, programs):
         for kind, calls in run_inputs.kinds():
             path, events = write(folder, kind, calls)
-            print(f"{kind.name}, {calls} calls, {events} events, `mgcall run` beside the tuned runner")
+            print(f"{kind.name}, {calls} calls, {events} events, `mgcall run` beside the tuned runner with each call alone once more, and without")
             measures = [("nanoseconds of processor time", seconds, 1e9), *([("instructions", instructions, 1)] if measuring.has_valgrind() else [])]
             for name, cost, unit in measures:
-                whole, read = ([cost(program, path, workers) * unit / events for program in both] for workers in (1, 0))
+                whole, read = ([cost(program, path, workers) * unit / events for program in programs] for workers in (1, 0))
                 print(f"  {name} an event: {beside(whole)}; without reading {beside([each - less for each, less in zip(whole, read)])}")
 
 
 def tuned_sizes():
     """The processor time of an event with 10,000 calls and with 100, in one shard on one worker, without reading."""
     long = next(kind for kind, _ in run_inputs.kinds() if kind.name == "long")
-    with prepared() as (folder, both):
+    with prepared() as (folder, programs):
         each = {}
         for calls, steps in ((100, long.steps), (10_000, long.steps[:99])):
             path, events = write(folder, long._replace(steps=steps), calls)
-            each[calls] = [(seconds(program, path, 1) - seconds(program, path, 0)) / events * 1e9 for program in both]
+            each[calls] = [(seconds(program, path, 1) - seconds(program, path, 0)) / events * 1e9 for program in programs]
             print(f"{calls} calls, {events} events: {beside(each[calls])} nanoseconds of processor time an event")
         print("  ratio of many calls to few " + " beside ".join(f"{many / few:.2f}" for few, many in zip(each[100], each[10_000])))
 
@@ -93,9 +112,9 @@ def clock(program, path, workers, times=1):
 def tuned_workers():
     """A run on four workers in four shards, beside four runs of a quarter each, by the clock and without reading."""
     long = next(kind for kind, _ in run_inputs.kinds() if kind.name == "long")
-    with prepared() as (folder, both):
+    with prepared() as (folder, programs):
         (whole, events), (quarter, _) = write(folder, long, 800, 4), write(folder, long, 200)
-        for name, program in zip(("mgcall run", "tuned runner"), both):
+        for name, program in zip(NAMES, programs):
             one, apart = clock(program, whole, 4), clock(program, quarter, 1, 4)
             print(f"{name}, {events} events: four workers {one:.3f} s, four runs {apart:.3f} s; four workers reach {apart / one:.2f} of them")
 
