@@ -1,5 +1,5 @@
 //! What is counted of the calls of a shard: each step that is taken in it is the plan's next one, and is counted as it is taken.
-ghost use Rattle.std.specs.Prelude.{◌≡◌, ◌<◌, ◌≤◌, [], IfOk, IsTrue, OnOk, false, length};
+ghost use Rattle.std.specs.Prelude.{◌≡◌, ◌<◌, ◌≤◌, [], IfOk, IsTrue, OnOk, false, length, true};
 ghost use Rattle.mg_model.specs.Numbers.{plan_calls};
 ghost use Rattle.planned_calls.specs.Shards.{HasSameOpening};
 ghost use Rattle.run_shards.specs.Counting.{AreAtEnd, AreNoneCounted, CountsOne, HasStepsLeft, IsNewCount, RaisesOne, StaysCounted, TakesStep, place_of};
@@ -78,7 +78,8 @@ impl ShardCount {
         calls: usize,
     ) -> Result<ShardCount, AllocError>
         requires { shard.now.history ≡ [] }
-        ensures { IfOk result (λ count. IsNewCount calls shard.now count) }
+        ensures counted { IfOk result (λ count. IsNewCount calls shard.now count) }
+        ensures whole { IfOk result (λ count. count.is_whole ≡ true) }
     {
         shard.keeps_its_run();
         Ok(ShardCount {
