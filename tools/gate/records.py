@@ -12,6 +12,7 @@ from shared import crates
 
 ANEW = "--anew"
 LINE = re.compile(r"(\S+) ([0-9a-f]{64})")
+LETTER = re.compile(r"^(rattle-kit-\d+)[a-z]+\b")
 TOOLS = crates.TOP / "tools"
 IMPORT = re.compile(r"^from (gate|shared) import (.+)$", re.MULTILINE)
 
@@ -36,8 +37,10 @@ def digest(*parts):
 
 
 def kit():
-    """What stands for the toolchain: the line that names it."""
-    return subprocess.run([crates.kit() / "bin" / "rt", "version"], capture_output=True, text=True, check=True).stdout.strip()
+    """What stands for the toolchain: the line that names it with the sum of its logic. The letter behind a kit's number is left out, so that a record lives on
+    where a build of the same kit takes the place of another."""
+    line = subprocess.run([crates.kit() / "bin" / "rt", "version"], capture_output=True, text=True, check=True).stdout.strip()
+    return LETTER.sub(r"\1", line)
 
 
 def of_files(root, *parts):
