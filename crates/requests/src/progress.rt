@@ -87,16 +87,17 @@ fn add_result(results: &mut Vec<Done>, done: Done) -> Result<(), AllocError>
 }
 
 impl Progress {
-    /// A request that starts.
-    pub(crate) fn start(connections: Connections) -> Progress
-        ensures { running result ≡ start_in connections }
+    /// A request of so many commands that starts: each of them has room for its result.
+    pub(crate) fn start(connections: Connections, commands: usize) -> Result<Progress, AllocError>
+        ensures { IfOk result (λ progress. running progress ≡ start_in connections) }
     {
         let alloc = connections.alloc;
-        Progress {
+        let results = Vec::with_capacity(alloc, commands)?;
+        Ok(Progress {
             connections,
-            results: Vec::new(alloc),
+            results,
             notes: Vec::new(alloc),
-        }
+        })
     }
 
     /// The rest of a command that the board did.

@@ -51,7 +51,7 @@ impl Connections {
     ) -> Result<(Connections, Outcome), AllocError>
         ensures { IfOk result (λ ended. Ends self request.now chosen ended.0 ended.1.results.items (line_notes ended.1.notes.items) ended.1.failure) }
     {
-        let mut progress = Progress::start(self);
+        let mut progress = Progress::start(self, request.commands().len())?;
         let failure = progress.run(request.commands(), chosen, request.number())?;
         progress.connections.settle();
         Ok((
