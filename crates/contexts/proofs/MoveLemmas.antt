@@ -20,17 +20,9 @@ use Rattle.contexts.proofs.TermLemmas.{by_value}
 use Rattle.contexts.proofs.TieLemmas.{Leaves, tied_left, cut_left, Enters, tied_entered, cut_entered}
 use Rattle.contexts.proofs.RowLemmas.{row_with_here, changes_twice}
 
-pub left_exists : (row : Option Row) → IsTrue (is_some row) → IsTrue (is_some (left row))
-left_exists None there = there
-left_exists (Some row) there = search rules
-
 pub left_place : (row : Option Row) → place_in (left row) ≡ 0
 left_place None = refl
 left_place (Some row) = refl
-
-pub left_row_in : (c : ℕ) (settings : Settings) (row : Option Row) → row_in c settings (left row) ≡ row_in c settings row
-left_row_in c settings None = refl
-left_row_in c settings (Some row) = refl
 
 pub record Moves (rows between after : TermId → Option Row) (m e n : ℕ → Option (List TermId)) (k j : ℕ → Option (List Cut)) (t : TermId) (one two : Option Row) (from to : ℕ) : Type 0 where
   pub was : place_in (rows t) ≡ from

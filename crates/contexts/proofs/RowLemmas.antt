@@ -1,10 +1,8 @@
 -- Rows with one changed: nothing, twice, and by what a command sets.
-use Rattle.std.proofs.Common.{◌≡◌, true, IsTrue, is_some, if◌then◌else◌, refl, ap, ◌∙◌, rules, Option, Some, None}
+use Rattle.std.proofs.Common.{◌≡◌, IsTrue, is_some, if◌then◌else◌, refl, ap, ◌∙◌, rules, Option, Some, None}
 use Rattle.mg_names.specs.declared.identifiers.TermId.{TermId}
 use Rattle.mg_names.specs.declared.identifiers.TermId.TheVariants.{Line, Eph}
-use Rattle.mg_names.specs.declared.modes.Mode.{Mode}
-use Rattle.mg_model.specs.declared.items.RemoteSetting.{RemoteSetting}
-use Rattle.mg_model.specs.declared.items.RemoteSetting.TheVariants.{Nothing, Ephemeral}
+use Rattle.mg_names.specs.declared.identifiers.ContextId.{ContextId}
 use Rattle.mg_model.specs.declared.items.Settings.{Settings}
 use Rattle.mg_model.specs.declared.rows.Row.{Row}
 use Rattle.mg_model.specs.Board.{same_term, place_in}
@@ -12,7 +10,7 @@ use Rattle.mg_model.specs.Items.{subtracted}
 use Rattle.contexts.specs.Table.{cleared}
 use Rattle.mg_model.specs.Board.{row_with}
 use Rattle.mg_model.proofs.Terminations.{same_term_is, same_term_self}
-use Rattle.contexts.specs.Rows.{mode_applied, remote_applied, fits, row_in}
+use Rattle.contexts.specs.Rows.{row_in, set_on}
 use Rattle.contexts.proofs.TermLemmas.{by_value}
 
 pub row_with_same : (rows : TermId → Option Row) (t : TermId) → rows ≡ row_with rows t (rows t)
@@ -38,26 +36,14 @@ changes_twice rows between after t f g first second =
     second ∙ ap (λ (o : Option Row). row_with between t (g o)) there ∙ ap (λ (h : TermId → Option Row). row_with h t (g (f (rows t)))) first
     ∙ row_with_twice rows t (f (rows t)) (g (f (rows t)))
 
-pub applied_is : (t : TermId) (settings : Settings) (row : Option Row) → IsTrue (is_some row) → fits t settings.remote ≡ true →
-    remote_applied t settings.remote (mode_applied settings.mode row) ≡ row_in (place_in row) settings row
-applied_is t settings None there fit = absurd (search rules)
-applied_is (Line l) settings (Some row) there fit = line settings.mode settings.remote fit
-  where
-    line : (mode : Option Mode) (remote : Option RemoteSetting) → fits (Line l) remote ≡ true →
-        remote_applied (Line l) remote (mode_applied mode (Some row)) ≡ row_in (place_in (Some row)) (record { mode = mode; remote = remote }) (Some row)
-    line None None fit = refl
-    line (Some mode) None fit = refl
-    line mode (Some remote) fit = absurd (search rules)
-applied_is (Eph k) settings (Some row) there fit = ephemeral settings.mode settings.remote
-  where
-    ephemeral : (mode : Option Mode) (remote : Option RemoteSetting) →
-        remote_applied (Eph k) remote (mode_applied mode (Some row)) ≡ row_in (place_in (Some row)) (record { mode = mode; remote = remote }) (Some row)
-    ephemeral None None = refl
-    ephemeral (Some mode) None = refl
-    ephemeral None (Some Nothing) = refl
-    ephemeral None (Some (Ephemeral i)) = refl
-    ephemeral (Some mode) (Some Nothing) = refl
-    ephemeral (Some mode) (Some (Ephemeral i)) = refl
+-- what is set on a row that is there
+pub set_in_place : (settings : Settings) (row : Option Row) → IsTrue (is_some row) → set_on None settings row ≡ row_in (place_in row) settings row
+set_in_place settings None there = absurd (search rules)
+set_in_place settings (Some row) there = refl
+
+pub set_elsewhere : (context : ContextId) (settings : Settings) (row : Option Row) → IsTrue (is_some row) → set_on (Some context) settings row ≡ row_in context.0 settings row
+set_elsewhere context settings None there = absurd (search rules)
+set_elsewhere context settings (Some row) there = refl
 
 pub cleared_place : (t : TermId) (row : Option Row) → place_in (cleared t row) ≡ 0
 cleared_place (Line l) None = refl

@@ -35,7 +35,6 @@ impl Board {
         };
         members::leave(&mut self.members, self.alloc, from, t);
         cuts::forget(&mut self.cuts, from, t);
-        let _ = self.terms.leave(t);
         rows::place(&mut self.terms, t, context, settings);
         Ok(())
     }

@@ -8,6 +8,7 @@ ghost use Rattle.identifiers.specs.declared.fault.CreateFault.TheVariants as Cre
 use crate::faults::AddLineFault;
 use crate::term_rows::{self, IDLE, Rows};
 use identifiers::{CreateFault, Identifiers};
+use mg_model::items::Settings;
 use mg_model::rows::Row;
 use mg_names::codes::Code;
 use mg_names::identifiers::{ContextId, LineNo, TermId};
@@ -40,6 +41,7 @@ impl Model for Terms {
 impl Terms {
     ghost use Rattle.mg_model.specs.Numbers.{last_ephemeral};
     ghost use Rattle.contexts.specs.Table.{row_of, used_of, put, left, destroyed, with_mode, with_remote, cleared, known, unless_taken, known_ephemeral, overwritten, LineHasNoRemote, SameNumbers, IsUsedUp, IsCreated};
+    ghost use Rattle.contexts.specs.Rows.{fits, set_on};
     ghost use Rattle.mg_model.specs.Board.{row_with, null_row};
 
     /// No termination, and no number used.
@@ -130,7 +132,7 @@ impl Terms {
     }
 
     /// Writes the row of a termination that exists.
-    fn overwrite(&mut self, t: TermId, row: Row)
+    pub(crate) fn overwrite(&mut self, t: TermId, row: Row)
         requires { LineHasNoRemote t row }
         ensures rows { row_of self.new ≡ row_with (row_of self.old) t (overwritten row (row_of self.old t)) }
         ensures numbers { SameNumbers self.old self.new }
@@ -139,6 +141,20 @@ impl Terms {
             TermId::Line(line) => term_rows::overwrite(&mut self.lines, line.0, row),
             TermId::Eph(number) => {
                 let _ = self.ephemerals.replace(number, row);
+            }
+        }
+    }
+
+    /// Sets what a command sets on a termination, in the context that it is put into; where it stands, if it is put into none.
+    pub(crate) fn set(&mut self, t: TermId, context: Option<ContextId>, settings: &Settings)
+        requires { fits t settings.now.remote ≡ true }
+        ensures rows { row_of self.new ≡ row_with (row_of self.old) t (set_on context settings.now (row_of self.old t)) }
+        ensures numbers { SameNumbers self.old self.new }
+    {
+        match t {
+            TermId::Line(line) => term_rows::set(&mut self.lines, line.0, context, settings),
+            TermId::Eph(number) => {
+                term_rows::set_ephemeral(&mut self.ephemerals, number, context, settings)
             }
         }
     }

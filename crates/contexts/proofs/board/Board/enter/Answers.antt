@@ -15,10 +15,6 @@ pub place-requires-clause-exists : goal.place-requires-clause-exists
 unfolding board_of
 place-requires-clause-exists c = rw (← c.self.view_is) at c.requires.exists
 
-pub place-requires-clause-free : goal.place-requires-clause-free
-unfolding board_of
-place-requires-clause-free c = rw (← c.self.view_is) at c.requires.free
-
 enters : (c : goal.After-place) → Enters (row_of c.self.inside.terms) (row_of c.place.new.terms) (members_at c.self.inside.members) (members_at c.enter.new.members)
     c.args.t (row_in c.args.context.0 c.args.settings.now (row_of c.self.inside.terms c.args.t)) c.args.context.0
 unfolding board_of
