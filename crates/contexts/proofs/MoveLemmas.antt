@@ -1,5 +1,5 @@
 -- A termination leaves one context and enters another.
-use Rattle.std.proofs.Common.{◌≡◌, ◌≢◌, ℕ, ◌==◌, Bool, true, false, IsTrue, is_some, if◌then◌else◌, refl, ap, sym, ◌∙◌, arith, rules, List, Option, Some, None}
+use Rattle.std.proofs.Common.{◌≡◌, ◌≢◌, ℕ, ◌==◌, Bool, true, false, IsTrue, if◌then◌else◌, refl, ap, sym, ◌∙◌, arith, List, Option, Some, None}
 use Rattle.std.proofs.lemmas.Grind.{common_steps}
 use Rattle.std.proofs.lemmas.Bool.{eqb-true}
 use Rattle.mg_names.specs.declared.identifiers.TermId.{TermId}

@@ -6,6 +6,9 @@ use Rattle.mg_names.specs.declared.identifiers.TermId.TheVariants.{Line, Eph}
 use Rattle.mg_model.specs.declared.items.Settings.{Settings}
 use Rattle.mg_model.specs.declared.items.Added.{Added}
 use Rattle.mg_model.specs.declared.items.Added.TheVariants as added
+use Rattle.mg_model.specs.declared.items.Item.{Item}
+use Rattle.mg_model.specs.declared.items.Item.TheVariants as item
+use Rattle.mg_model.specs.declared.rows.Row.{Row}
 use Rattle.mg_model.specs.Board.{Board, ContextExists, exists, place_of, same_term}
 use Rattle.mg_model.specs.Numbers.{null, choose, the_line}
 use Rattle.mg_model.specs.Items.{Done, Lists, is_ephemeral_number, with_ephemeral, given, NoContextLeft, NoEphemeralLeft, EphemeralsUsedUp, placed}
@@ -28,6 +31,21 @@ IsUnknownBut b c but = (c ≡ but → ⊥) × (ContextExists b c → ⊥)
 
 abbrev pub NoneLeftFor : Board → ℕ → Added → Type 0
 NoneLeftFor b c added = ((c ≡ choose) × NoContextLeft b) ⊎ EphemeralsUsedUp b added
+
+-- the row of the termination that a command names, of the first one where it names two
+abbrev pub row_of_first : Board → Item → Option Row
+row_of_first b (item.Add context (added.Line l) settings) = b.row (Line l)
+row_of_first b (item.Add context added.NewEphemeral settings) = None
+row_of_first b (item.Modify context t settings) = b.row t
+row_of_first b (item.Move context t settings) = b.row t
+row_of_first b (item.Subtract context t) = b.row t
+row_of_first b (item.SubtractAll context) = None
+row_of_first b (item.SetTopology context t u topology) = b.row t
+
+-- the row of the second one
+abbrev pub row_of_second : Board → Item → Option Row
+row_of_second b (item.SetTopology context t u topology) = b.row u
+row_of_second b what = None
 
 -- what a command tells that takes nothing out of its context
 abbrev pub created : Option ℕ → Option ℕ → Done

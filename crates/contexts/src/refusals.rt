@@ -1,15 +1,26 @@
 //! Why a command is refused: the codes in their order, each with its own test.
-ghost use Rattle.std.specs.Prelude.{◌≡◌, not, ◌||◌, IsTrue, ◌↔◌, MatchOption};
-ghost use Rattle.mg_model.specs.Board.{exists, place_of, ContextExists};
+ghost use Rattle.std.specs.Prelude.{◌≡◌, IsTrue, ◌↔◌, MatchOption};
+ghost use Rattle.mg_model.specs.Board.{exists, place_in, place_of, ContextExists};
 ghost use Rattle.mg_model.specs.Items.{LacksContext, names_nothing, remote_refused, lacks_termination, is_taken, is_misplaced, NoContextLeft, NoEphemeralLeft, EphemeralsUsedUp, IsUsedUp, IsLegal, IsRefused};
 ghost use Rattle.contexts.specs.BoardValue.{board_of};
-ghost use Rattle.contexts.specs.Steps.{IsUnknown, IsUnknownBut, NoneLeftFor};
+ghost use Rattle.contexts.specs.Steps.{IsUnknown, IsUnknownBut, NoneLeftFor, row_of_first, row_of_second};
 
 use crate::board::Board;
 use crate::same::is_same;
 use mg_model::items::{Added, Item, RemoteSetting};
+use mg_model::rows::Row;
 use mg_names::codes::Code;
 use mg_names::identifiers::{ContextId, TermId};
+
+/// The number of the context in which a row stands; 0 where there is none.
+fn place_in(row: Option<Row>) -> u32
+    ensures { result ≡ place_in row }
+{
+    match row {
+        Some(row) => row.place.0,
+        None => 0,
+    }
+}
 
 impl Board {
     /// Whether a context doesn't exist.
@@ -82,15 +93,43 @@ impl Board {
         }
     }
 
-    /// Whether a termination is unknown, or a Remote can't be set on it.
-    fn is_unknown_or_refused(&self, t: &TermId, remote: Option<RemoteSetting>) -> bool
-        ensures { result ≡ (not (exists (board_of self.now) t.now) || remote_refused (board_of self.now) t.now remote) }
+    /// The row of the termination that a command names, of the first one where it names two. `None` where it doesn't exist.
+    #[tactic(auto, unfolding(crate::specs::BoardValue::board_of))]
+    fn row_of_first(&self, item: &Item) -> Option<Row>
+        ensures { result ≡ row_of_first (board_of self.now) item.now }
     {
-        !self.exists(*t) || self.is_remote_refused(t, remote)
+        match *item {
+            Item::Add {
+                added: Added::Line(line),
+                ..
+            } => self.get(TermId::Line(line)),
+            Item::Add {
+                added: Added::NewEphemeral,
+                ..
+            } => None,
+            Item::Modify { termination, .. } => self.get(termination),
+            Item::Move { termination, .. } => self.get(termination),
+            Item::Subtract { termination, .. } => self.get(termination),
+            Item::SubtractAll { .. } => None,
+            Item::SetTopology { first, .. } => self.get(first),
+        }
+    }
+
+    /// The row of the second termination that a command names. `None` where it doesn't exist.
+    #[tactic(auto, unfolding(crate::specs::BoardValue::board_of))]
+    fn row_of_second(&self, item: &Item) -> Option<Row>
+        ensures { result ≡ row_of_second (board_of self.now) item.now }
+    {
+        match *item {
+            Item::SetTopology { second, .. } => self.get(second),
+            _ => None,
+        }
     }
 
     /// 430: a termination or the Remote is unknown.
-    fn lacks_termination(&self, item: &Item) -> bool
+    fn lacks_termination(&self, item: &Item, first: Option<Row>, second: Option<Row>) -> bool
+        requires first { first ≡ row_of_first (board_of self.now) item.now }
+        requires second { second ≡ row_of_second (board_of self.now) item.now }
         ensures { result ≡ lacks_termination (board_of self.now) item.now }
     {
         match *item {
@@ -98,7 +137,7 @@ impl Board {
                 added: Added::Line(line),
                 settings,
                 ..
-            } => self.is_unknown_or_refused(&TermId::Line(line), settings.remote),
+            } => first.is_none() || self.is_remote_refused(&TermId::Line(line), settings.remote),
             Item::Add {
                 added: Added::NewEphemeral,
                 settings,
@@ -108,61 +147,52 @@ impl Board {
                 termination,
                 settings,
                 ..
-            } => self.is_unknown_or_refused(&termination, settings.remote),
+            } => first.is_none() || self.is_remote_refused(&termination, settings.remote),
             Item::Move {
                 termination,
                 settings,
                 ..
-            } => self.is_unknown_or_refused(&termination, settings.remote),
-            Item::Subtract { termination, .. } => !self.exists(termination),
+            } => first.is_none() || self.is_remote_refused(&termination, settings.remote),
+            Item::Subtract { .. } => first.is_none(),
             Item::SubtractAll { .. } => false,
-            Item::SetTopology { first, second, .. } => !self.exists(first) || !self.exists(second),
+            Item::SetTopology { .. } => first.is_none() || second.is_none(),
         }
     }
 
     /// 433: the line that is added stands in a context.
-    fn is_taken(&self, item: &Item) -> bool
+    fn is_taken(&self, item: &Item, first: Option<Row>) -> bool
+        requires first { first ≡ row_of_first (board_of self.now) item.now }
         ensures { result ≡ is_taken (board_of self.now) item.now }
     {
         match *item {
             Item::Add {
-                added: Added::Line(line),
+                added: Added::Line(_),
                 ..
-            } => self.place_of(TermId::Line(line)) != 0,
+            } => place_in(first) != ContextId::NULL.0,
             _ => false,
         }
     }
 
     /// 435: the termination isn't where the command has to find it.
-    fn is_misplaced(&self, item: &Item) -> bool
+    fn is_misplaced(&self, item: &Item, first: Option<Row>, second: Option<Row>) -> bool
+        requires first { first ≡ row_of_first (board_of self.now) item.now }
+        requires second { second ≡ row_of_second (board_of self.now) item.now }
         ensures { result ≡ is_misplaced (board_of self.now) item.now }
     {
+        let place = place_in(first);
         match *item {
             Item::Add { .. } => false,
-            Item::Modify {
-                context,
-                termination,
-                ..
-            } => self.place_of(termination) != context.0,
-            Item::Move {
-                context,
-                termination,
-                ..
-            } => self.place_of(termination) == ContextId::NULL.0
-                || self.place_of(termination) == context.0,
-            Item::Subtract {
-                context,
-                termination,
-            } => self.place_of(termination) != context.0,
+            Item::Modify { context, .. } => place != context.0,
+            Item::Move { context, .. } => place == ContextId::NULL.0 || place == context.0,
+            Item::Subtract { context, .. } => place != context.0,
             Item::SubtractAll { .. } => false,
             Item::SetTopology {
                 context,
                 first,
-                second,
+                second: other,
                 ..
             } => {
-                self.place_of(first) != context.0
-                    || (self.place_of(second) != context.0 || is_same(&first, &second))
+                place != context.0 || (place_in(second) != context.0 || is_same(&first, &other))
             }
         }
     }
@@ -220,13 +250,15 @@ impl Board {
         if self.lacks_context(item) {
             return Some(Code::UnknownContext);
         }
-        if self.lacks_termination(item) {
+        let first = self.row_of_first(item);
+        let second = self.row_of_second(item);
+        if self.lacks_termination(item, first, second) {
             return Some(Code::UnknownTermination);
         }
-        if self.is_taken(item) {
+        if self.is_taken(item, first) {
             return Some(Code::AlreadyInContext);
         }
-        if self.is_misplaced(item) {
+        if self.is_misplaced(item, first, second) {
             return Some(Code::NotInContext);
         }
         if self.is_used_up(item) {
