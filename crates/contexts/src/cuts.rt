@@ -1,9 +1,9 @@
 //! The pairs of terminations between which media is cut, by context.
-ghost use Rattle.std.specs.Prelude.{◌≡◌, ℕ, ◌==◌, Bool, false, not, ◌&&◌, ◌||◌, Some, None, [], ◌∷◌, ◌++◌, filter, IfOk, OnOk, OnErr, if◌then◌else◌};
+ghost use Rattle.std.specs.Prelude.{◌≡◌, ℕ, ◌+◌, ◌<◌, ◌≤◌, vec_len, vec_capacity, ◌==◌, Bool, false, not, ◌||◌, IsTrue, Some, None, [], filter, IfOk, OnOk, OnErr, if◌then◌else◌};
 ghost use Rattle.mg_model.specs.Board.{same_term};
 ghost use Rattle.mg_model.specs.Items.{with_cut};
 ghost use Rattle.mg_names.specs.declared.identifiers.TermId.{TermId};
-ghost use Rattle.contexts.specs.Groups.{group_at, listed, has_cut, is_between, touches, set_between, without_cuts_of};
+ghost use Rattle.contexts.specs.Groups.{group_at, listed, has_cut, is_between, touches, cut_if, set_between, without_cuts_of};
 
 use crate::same::is_same;
 use mg_names::identifiers::TermId;
@@ -52,39 +52,57 @@ fn is_between(cut: &Cut, t: &TermId, u: &TermId) -> bool
         || (is_same(&cut.source, u) && is_same(&cut.sink, t))
 }
 
-/// The cuts of a context that are not between two terminations.
-fn others(
-    alloc: Global,
-    cuts: &Cuts,
-    context: u32,
-    t: &TermId,
-    u: &TermId,
-) -> Result<Vec<Cut>, AllocError>
-    ensures { IfOk result (λ group. group.items ≡ filter (λ cut. not (is_between t.now u.now cut)) (listed (group_at cuts.now.entries context))) }
+/// Takes the cuts between two terminations out of a list.
+fn drop_between(group: &mut Vec<Cut>, t: TermId, u: TermId)
+    ensures items { group.new.items ≡ filter (λ cut. not (is_between t u cut)) group.old.items }
+    ensures bound { vec_len group.new ≤ vec_len group.old }
+    ensures capacity { vec_capacity group.new ≡ vec_capacity group.old }
 {
-    match cuts.get(&context) {
-        Some(group) => group
-            .iter()
-            .copied()
-            .filter(|cut| !is_between(cut, t, u))
-            .collect(alloc),
-        None => Ok(Vec::new(alloc)),
+    group.retain(|cut| !is_between(cut, &t, &u));
+}
+
+/// Adds a cut to a list, which has room for it, where there is to be one.
+fn append_if(group: &mut Vec<Cut>, wanted: bool, source: TermId, sink: TermId)
+    requires { IsTrue wanted → vec_len group.old < vec_capacity group.old }
+    ensures items { group.new.items ≡ cut_if wanted source sink group.old.items }
+    ensures bound { vec_len group.new ≤ vec_len group.old + 1 }
+    ensures capacity { vec_capacity group.new ≡ vec_capacity group.old }
+{
+    if wanted {
+        group.push_reserved(Cut { source, sink });
     }
 }
 
-/// Adds a cut to a list where there is to be one.
-fn append_if(
-    group: &mut Vec<Cut>,
-    wanted: bool,
-    source: TermId,
-    sink: TermId,
-) -> Result<(), AllocError>
-    ensures { OnOk result (group.new.items ≡ (if wanted then group.old.items ++ record { source = source; sink = sink } ∷ [] else group.old.items)) }
+/// Makes room in a list for what is to be cut between two terminations.
+fn make_room(group: &mut Vec<Cut>, pair: &CutPair) -> Result<(), AllocError>
+    ensures items { group.new.items ≡ group.old.items }
+    ensures room { OnOk result (IsTrue (pair.now.forward || pair.now.backward) → vec_len group.new + 2 ≤ vec_capacity group.new) }
 {
-    if wanted {
-        group.extend_from_slice(&[Cut { source, sink }])?;
+    if pair.forward || pair.backward {
+        return group.reserve(2);
     }
     Ok(())
+}
+
+/// Sets what is cut between two terminations in a list.
+fn set_in(group: &mut Vec<Cut>, pair: &CutPair) -> Result<(), AllocError>
+    ensures ok { OnOk result (group.new.items ≡ set_between pair.now.first pair.now.second pair.now.forward pair.now.backward group.old.items) }
+    ensures err { OnErr result (group.new.items ≡ group.old.items) }
+{
+    make_room(group, pair)?;
+    drop_between(group, pair.first, pair.second);
+    append_if(group, pair.forward, pair.first, pair.second);
+    append_if(group, pair.backward, pair.second, pair.first);
+    Ok(())
+}
+
+/// The list of what is cut between two terminations.
+fn set_alone(alloc: Global, pair: &CutPair) -> Result<Vec<Cut>, AllocError>
+    ensures { IfOk result (λ group. group.items ≡ set_between pair.now.first pair.now.second pair.now.forward pair.now.backward []) }
+{
+    let mut group = Vec::new(alloc);
+    set_in(&mut group, pair)?;
+    Ok(group)
 }
 
 /// Sets whether media is cut between two terminations of a context.
@@ -92,17 +110,12 @@ pub fn set(cuts: &mut Cuts, alloc: Global, context: u32, pair: CutPair) -> Resul
     ensures ok { OnOk result ((c : ℕ) → group_at cuts.new.entries c ≡ (if c == context then Some (set_between pair.first pair.second pair.forward pair.backward (listed (group_at cuts.old.entries context))) else group_at cuts.old.entries c)) }
     ensures err { OnErr result ((c : ℕ) → group_at cuts.new.entries c ≡ group_at cuts.old.entries c) }
 {
-    let CutPair {
-        first,
-        second,
-        forward,
-        backward,
-    } = pair;
-    let mut group = others(alloc, cuts, context, &first, &second)?;
-    append_if(&mut group, forward, first, second)?;
-    append_if(&mut group, backward, second, first)?;
-    cuts.insert(context, group)?;
-    Ok(())
+    let Some(group) = cuts.get_mut(&context) else {
+        let group = set_alone(alloc, &pair)?;
+        cuts.insert(context, group)?;
+        return Ok(());
+    };
+    set_in(group, &pair)
 }
 
 /// Takes the cuts of a termination out of a list.
