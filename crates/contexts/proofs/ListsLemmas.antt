@@ -1,5 +1,5 @@
 -- Numbers in rising order that pass a test.
-use Rattle.std.proofs.Common.{◌≡◌, ◌≢◌, ℕ, zero, suc, ◌<◌, ◌==◌, Bool, true, false, ◌&&◌, ◌||◌, is_some, refl, subst, sym, arith, List, [], ◌∷◌, Contains, Option, Some, None, nat_cmp, Less, BTreeSet}
+use Rattle.std.proofs.Common.{◌≡◌, ◌≢◌, ℕ, zero, suc, ◌<◌, ◌==◌, Bool, true, false, ◌&&◌, ◌||◌, IsTrue, is_some, refl, subst, sym, arith, List, [], ◌∷◌, Contains, Option, Some, None, nat_cmp, Less, BTreeSet}
 use Rattle.std.proofs.lemmas.Grind.{common_steps}
 use Rattle.std.proofs.lemmas.Cmp.{nat_cmp_total}
 use Rattle.std.proofs.lemmas.Map.Views.{btree_set_contains_iff}
@@ -8,12 +8,16 @@ use Rattle.std.proofs.lemmas.Bool.{eqb-true}
 use Rattle.std.specs.BTreeSet.{IsOrdered, contains}
 use Rattle.std.specs.List.{AllByRecursion}
 use Rattle.std.specs.List.Sorted.{IsStrictlySortedBy}
+use Rattle.mg_names.specs.declared.identifiers.LineNo.{LineNo}
 use Rattle.mg_names.specs.declared.identifiers.TermId.{TermId}
+use Rattle.mg_names.specs.declared.identifiers.TermId.TheVariants.{Line, Eph}
 use Rattle.mg_model.specs.declared.rows.Row.{Row}
 use Rattle.mg_model.specs.Board.{Board, same_term, exists, place_of, place_in}
 use Rattle.mg_model.specs.Items.{IsRising, Lists}
 use Rattle.mg_model.proofs.Terminations.{same_term_is as same_is}
 use Rattle.contexts.specs.BoardValue.{stands_in}
+use Rattle.contexts.specs.Steps.{IsTakenOut}
+use Rattle.contexts.proofs.ExecLemmas.{no_numbers}
 use Rattle.contexts.proofs.TermLemmas.{by_value}
 use Rattle.contexts.proofs.MoveLemmas.{is_not}
 
@@ -47,3 +51,33 @@ all_leave b c u not_null = rw (is_not c 0 not_null) (go (b.row u))
     go : (row : Option Row) → (place_in row == c) ≡ ((place_in row == c) && is_some row)
     go None = by_value (0 == c) (λ e. absurd (not_null (sym (eqb-true 0 c e)))) (λ e. rw e refl)
     go (Some row) = by_value (row.place.0 == c) (λ e. rw e refl) (λ e. rw e refl)
+
+-- a list of one number
+pub lists_one : (test : ℕ → Bool) (x : ℕ) → ((n : ℕ) → test n ≡ (n == x || false)) → Lists test (x ∷ [])
+lists_one test x same = lists_same (λ n. n == x || false) test (x ∷ []) (λ n. sym (same n)) record {
+  rising = (λ y there. absurd (omega (arith, there.1)), tt);
+  exactly = λ n. (λ there. found n there, λ h. listed n h);
+}
+  where
+    found : (n : ℕ) → Contains (x ∷ []) n → IsTrue (n == x || false)
+    found n (zero, h, e) = let is : x ≡ n = e in grind (arith, common_steps)
+    found n (suc k, h, e) = absurd (omega (arith, h))
+
+    listed : (n : ℕ) → IsTrue (n == x || false) → Contains (x ∷ []) n
+    listed n h = let is : x ≡ n = grind (arith, common_steps) in (zero, omega arith, is)
+
+pub line_leaves : (l : LineNo) → IsTakenOut (Line l ∷ []) (record { context = None; ephemeral = None; lines = l.0 ∷ []; ephemerals = [] })
+line_leaves l = record {
+  context = refl;
+  ephemeral = refl;
+  lines = lists_one _ l.0 (λ n. refl);
+  ephemerals = no_numbers _ (λ n. refl);
+}
+
+pub ephemeral_leaves : (k : ℕ) → IsTakenOut (Eph k ∷ []) (record { context = None; ephemeral = None; lines = []; ephemerals = k ∷ [] })
+ephemeral_leaves k = record {
+  context = refl;
+  ephemeral = refl;
+  lines = no_numbers _ (λ n. refl);
+  ephemerals = lists_one _ k (λ n. refl);
+}

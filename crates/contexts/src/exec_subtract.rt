@@ -1,5 +1,5 @@
 //! Subtract on a board on which it is legal.
-ghost use Rattle.std.specs.Prelude.{◌≡◌, ℕ, true, OnErr, OnOk, IfOk};
+ghost use Rattle.std.specs.Prelude.{◌≡◌, ℕ, true, [], ◌∷◌, OnErr, OnOk, IfOk};
 ghost use Rattle.std.specs.BTreeSet.{contains, IsOrdered};
 ghost use Rattle.std.specs.Ordering.{nat_cmp};
 ghost use Rattle.std.specs.List.{list_any};
@@ -74,6 +74,60 @@ fn taken_out(alloc: Global, group: &[TermId]) -> Result<Done, AllocError>
     })
 }
 
+/// A list of one line.
+fn one_line(alloc: Global, line: LineNo) -> Result<Vec<LineNo>, AllocError>
+    ensures { IfOk result (λ found. found.items ≡ line ∷ []) }
+{
+    let mut found = Vec::new(alloc);
+    found.extend_from_slice(&[line])?;
+    Ok(found)
+}
+
+/// A list of one number.
+fn one_number(alloc: Global, number: u32) -> Result<Vec<u32>, AllocError>
+    ensures { IfOk result (λ found. found.items ≡ number ∷ []) }
+{
+    let mut found = Vec::new(alloc);
+    found.extend_from_slice(&[number])?;
+    Ok(found)
+}
+
+/// What Subtract tells of a line that it took out.
+fn line_taken_out(alloc: Global, line: LineNo) -> Result<Done, AllocError>
+    ensures { IfOk result (IsTakenOut (Line line ∷ [])) }
+{
+    let lines = one_line(alloc, line)?;
+    Ok(Done {
+        context: None,
+        ephemeral: None,
+        lines,
+        ephemerals: Vec::new(alloc),
+    })
+}
+
+/// What Subtract tells of an ephemeral that it took out.
+fn ephemeral_taken_out(alloc: Global, number: u32) -> Result<Done, AllocError>
+    ensures { IfOk result (IsTakenOut (Eph number ∷ [])) }
+{
+    let ephemerals = one_number(alloc, number)?;
+    Ok(Done {
+        context: None,
+        ephemeral: None,
+        lines: Vec::new(alloc),
+        ephemerals,
+    })
+}
+
+/// What Subtract tells of the one termination that it took out.
+fn one_taken_out(alloc: Global, t: TermId) -> Result<Done, AllocError>
+    ensures { IfOk result (IsTakenOut (t ∷ [])) }
+{
+    match t {
+        TermId::Line(line) => line_taken_out(alloc, line),
+        TermId::Eph(number) => ephemeral_taken_out(alloc, number),
+    }
+}
+
 impl Board {
     /// What Subtract of all terminations of a context tells.
     fn taken_out_of(&self, context: ContextId) -> Result<Done, AllocError>
@@ -92,7 +146,7 @@ impl Board {
         ensures ok { IfOk result (IsExecuted (board_of self.old) (item.Subtract context t) (board_of self.new)) }
         ensures err { OnErr result (board_of self.new ≡ board_of self.old) }
     {
-        let Ok(done) = taken_out(self.alloc, &[t]) else {
+        let Ok(done) = one_taken_out(self.alloc, t) else {
             return Err(AllocError);
         };
         self.subtract(context.0, t);
