@@ -13,7 +13,7 @@ PARTS = {
     "mg_reports": {"one call": Part("laws Laws Sums", "", "mg_alike mg_merge")},
     "contexts": {
         "numbers": Part("keys numbered Kept", "", "identifiers"),
-        "rows": Part("terms term_rows faults Table LineFaults", "numbers", ""),
+        "rows": Part("terms term_rows faults Table LineFaults Rows", "numbers", ""),
         "ties": Part("members cuts same Groups TiedBoard", "rows", ""),
         "media": Part("wiring media reach found trail paths Paths Found", "ties rows", ""),
     },
