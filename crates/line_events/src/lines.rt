@@ -94,13 +94,7 @@ impl LineSet {
         ensures rows { OnOk result (row_of self.new ≡ rows_after (row_of self.old) line.0 (λ row. Some (armed row list.now request))) }
         ensures unchanged { OnErr result (row_of self.new ≡ row_of self.old) }
     {
-        if rows::row(&self.rows, line.0).is_none() {
-            return Err(LineFault::UnknownLine);
-        }
-        let Ok(list) = list.copy(self.alloc) else {
-            return Err(LineFault::NoMemory);
-        };
-        rows::arm(&mut self.rows, line.0, list, request)
+        rows::arm(&mut self.rows, self.alloc, line.0, list, request)
     }
 
     /// The hook of a line goes to a state (Annex E.9). `CannotHappen` where it is in that state.

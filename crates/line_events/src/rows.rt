@@ -2,7 +2,8 @@
 ghost use Rattle.std.specs.Prelude.{◌≡◌, ℕ, ◌==◌, Some, None, OnOk, OnErr, IfOk, IfSome, is_some, if◌then◌else◌, option_map};
 ghost use Rattle.mg_model.specs.LineEvents.{new_line, armed, hooked, flashed, dialled, paused, signalled, signal_ended, cleared, stays};
 ghost use Rattle.line_events.specs.Answers.{noteless};
-ghost use Rattle.line_events.specs.Rows.{row_of, after, answer_on};
+ghost use Rattle.line_events.specs.Rows.{row_of, after, answer_on, is_memory};
+ghost use Rattle.mg_model.specs.Memory.{IsOrNoMemory};
 
 use crate::fault::LineFault;
 use crate::list::EventList;
@@ -34,21 +35,26 @@ pub(crate) fn add(rows: &mut Rows, alloc: Global, line: u32) -> Result<(), Alloc
     Ok(())
 }
 
-/// Gives a line a new Events descriptor.
+/// Gives a line an equal list as its new Events descriptor; a fault leaves the rows as they were.
 #[tactic(auto, unfolding(crate::specs::Rows::row_of))]
 pub(crate) fn arm(
     rows: &mut Rows,
+    alloc: Global,
     line: u32,
-    list: EventList,
+    list: &EventList,
     request: u32,
 ) -> Result<Option<Note>, LineFault>
-    ensures rows { (n : ℕ) → row_of rows.new.entries n ≡ (if n == line then after (λ row. Some (armed row list request)) (row_of rows.old.entries line) else row_of rows.old.entries n) }
-    ensures answer { result ≡ answer_on (row_of rows.old.entries line) (λ row. Some (armed row list request)) }
+    ensures answer { IsOrNoMemory is_memory result (answer_on (row_of rows.old.entries line) (λ row. Some (armed row list.now request))) }
+    ensures rows { OnOk result ((n : ℕ) → row_of rows.new.entries n ≡ (if n == line then after (λ row. Some (armed row list.now request)) (row_of rows.old.entries line) else row_of rows.old.entries n)) }
+    ensures unchanged { OnErr result ((n : ℕ) → row_of rows.new.entries n ≡ row_of rows.old.entries n) }
 {
-    match rows.get_mut(&line) {
-        Some(row) => Ok(row.arm(list, request)),
-        None => Err(LineFault::UnknownLine),
-    }
+    let Some(row) = rows.get_mut(&line) else {
+        return Err(LineFault::UnknownLine);
+    };
+    let Ok(list) = list.copy(alloc) else {
+        return Err(LineFault::NoMemory);
+    };
+    Ok(row.arm(list, request))
 }
 
 /// The hook of a line goes to a state.
