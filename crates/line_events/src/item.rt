@@ -1,6 +1,6 @@
 //! An item of an Events descriptor.
-ghost use Rattle.std.specs.Prelude.{◌≡◌, IfOk};
-ghost use Rattle.mg_model.specs.LineEvents.{is_hook, is_standing, is_flash};
+ghost use Rattle.std.specs.Prelude.{◌≡◌, ◌∷◌, [], IfOk, None};
+ghost use Rattle.mg_model.specs.LineEvents.{is_hook, is_standing, is_flash, map_in};
 
 use digits::DigitMap;
 use mg_model::line_events::Hook;
@@ -49,5 +49,18 @@ pub(crate) fn copy(alloc: Global, item: &ListItem) -> Result<ListItem, AllocErro
         EventItem::OffHook(strict) => Ok(EventItem::OffHook(*strict)),
         EventItem::Flash => Ok(EventItem::Flash),
         EventItem::Digits(map) => Ok(EventItem::Digits(map.copy(alloc)?)),
+    }
+}
+
+/// An equal item of one without a digit map.
+pub(crate) fn plain(item: &ListItem) -> ListItem
+    requires { map_in (item.now ∷ []) ≡ None }
+    ensures { result ≡ item.now }
+{
+    match item {
+        EventItem::OnHook(strict) => EventItem::OnHook(*strict),
+        EventItem::OffHook(strict) => EventItem::OffHook(*strict),
+        EventItem::Flash => EventItem::Flash,
+        EventItem::Digits(_) => unreachable!(),
     }
 }

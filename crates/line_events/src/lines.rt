@@ -150,13 +150,13 @@ impl LineSet {
         ensures answer { noteless result ≡ answer_on (row_of self.old line.0) (λ row. Some (stays (cleared row))) }
         ensures rows { row_of self.new ≡ rows_after (row_of self.old) line.0 (λ row. Some (stays (cleared row))) }
     {
-        rows::clear(&mut self.rows, line.0, self.alloc)
+        rows::clear(&mut self.rows, line.0)
     }
 
     /// Every line is silent and its Events descriptor empty, with no RequestID; hook states stay (this profile's own).
     pub fn clear_all(&mut self)
         ensures { row_of self.new ≡ (λ n. option_map cleared (row_of self.old n)) }
     {
-        rows::clear_all(&mut self.rows, self.alloc);
+        rows::clear_all(&mut self.rows);
     }
 }

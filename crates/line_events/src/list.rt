@@ -1,5 +1,5 @@
 //! The list of an Events descriptor.
-ghost use Rattle.std.specs.Prelude.{◌≡◌, [], IfOk, map, option_map};
+ghost use Rattle.std.specs.Prelude.{◌≡◌, [], None, IfOk, OnOk, OnErr, map, option_map};
 ghost use Rattle.std.specs.List.{list_any};
 ghost use Rattle.mg_model.specs.LineEvents.{is_hook, is_standing, is_flash, map_in};
 
@@ -48,6 +48,26 @@ impl EventList {
     {
         let items = copied(alloc, self.items.as_slice())?;
         Ok(EventList { items })
+    }
+
+    /// Becomes an equal list, in the room that it has where that is enough; it stays as it was where memory runs out.
+    pub(crate) fn assign(&mut self, alloc: Global, list: &EventList) -> Result<(), AllocError>
+        ensures ok { OnOk result (self.new ≡ list.now) }
+        ensures err { OnErr result (self.new ≡ self.old) }
+    {
+        // The copy of a digit map takes memory, which must not be refused once the old items are gone.
+        if list.map().is_some() {
+            *self = list.copy(alloc)?;
+            return Ok(());
+        }
+        refill(&mut self.items, list.items.as_slice())
+    }
+
+    /// Loses its items, and keeps their room.
+    pub(crate) fn clear(&mut self)
+        ensures { self.new ≡ [] }
+    {
+        self.items.clear();
     }
 
     /// The items, in their order.
@@ -125,10 +145,26 @@ fn has_flash(items: &[ListItem]) -> bool
 fn copied(alloc: Global, items: &[ListItem]) -> Result<Vec<ListItem>, AllocError>
     ensures { IfOk result (λ v. v.items ≡ items.now) }
 {
-    let mut found = Vec::new(alloc);
+    let mut found = Vec::with_capacity(alloc, items.len())?;
     for item in items {
         let item = item::copy(alloc, item)?;
         found.push(item)?;
     }
     Ok(found)
+}
+
+/// Puts items of which none has a digit map in the place of others.
+fn refill(found: &mut Vec<ListItem>, items: &[ListItem]) -> Result<(), AllocError>
+    requires { map_in items.now ≡ None }
+    ensures ok { OnOk result (found.new.items ≡ items.now) }
+    ensures err { OnErr result (found.new.items ≡ found.old.items) }
+{
+    found.reserve(items.len().saturating_sub(found.len()))?;
+    found.clear();
+    for item in items {
+        let Ok(()) = found.push(item::plain(item)) else {
+            unreachable!();
+        };
+    }
+    Ok(())
 }

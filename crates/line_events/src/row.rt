@@ -1,5 +1,5 @@
 //! The row of a line.
-ghost use Rattle.std.specs.Prelude.{◌≡◌, None, [], IfOk, option_map};
+ghost use Rattle.std.specs.Prelude.{◌≡◌, None, [], IfOk, OnOk, OnErr, option_map};
 ghost use Rattle.mg_model.specs.LineEvents.{new_line, armed, hooked, flashed, dialled, paused, signalled, signal_ended, cleared, kind_of, map_in};
 ghost use Rattle.line_events.specs.Collecting.{digits_in, IsFollowed};
 ghost use Rattle.line_events.specs.Answers.{row_after, answer, noteless};
@@ -126,19 +126,25 @@ impl LineRow {
         self.playing
     }
 
-    /// A new Events descriptor.
-    pub(crate) fn arm(&mut self, list: EventList, request: u32) -> Option<Note>
-        ensures row { self.new ≡ (armed self.old list request).row }
-        ensures note { result ≡ (armed self.old list request).note }
+    /// A new Events descriptor, with an equal list; the row stays as it was where memory runs out.
+    pub(crate) fn arm(
+        &mut self,
+        alloc: Global,
+        list: &EventList,
+        request: u32,
+    ) -> Result<Option<Note>, AllocError>
+        ensures row { OnOk result (self.new ≡ (armed self.old list.now request).row) }
+        ensures note { IfOk result (λ note. note ≡ (armed self.old list.now request).note) }
+        ensures unchanged { OnErr result (self.new ≡ self.old) }
     {
-        self.collector = collecting::start(&list);
-        self.list = list;
+        self.list.assign(alloc, list)?;
+        self.collector = collecting::start(&self.list);
         self.request = Some(request);
         if !self.list.has_standing(self.hook) {
-            return None;
+            return Ok(None);
         }
         self.playing = SignalSet::SILENT;
-        detected(self.request, kind_of(self.hook))
+        Ok(detected(self.request, kind_of(self.hook)))
     }
 
     /// The hook goes to a state.
@@ -223,10 +229,10 @@ impl LineRow {
     }
 
     /// The line is silent and its descriptor empty; the hook state stays.
-    pub(crate) fn clear(&mut self, alloc: Global)
+    pub(crate) fn clear(&mut self)
         ensures { self.new ≡ cleared self.old }
     {
-        self.list = EventList::empty(alloc);
+        self.list.clear();
         self.request = None;
         self.collector = None;
         self.playing = SignalSet::SILENT;

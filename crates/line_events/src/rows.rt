@@ -51,10 +51,10 @@ pub(crate) fn arm(
     let Some(row) = rows.get_mut(&line) else {
         return Err(LineFault::UnknownLine);
     };
-    let Ok(list) = list.copy(alloc) else {
-        return Err(LineFault::NoMemory);
-    };
-    Ok(row.arm(list, request))
+    match row.arm(alloc, list, request) {
+        Ok(note) => Ok(note),
+        Err(_) => Err(LineFault::NoMemory),
+    }
 }
 
 /// The hook of a line goes to a state.
@@ -134,13 +134,13 @@ pub(crate) fn signal_end(rows: &mut Rows, line: u32, signal: Signal) -> Result<(
 
 /// A line is silent and its Events descriptor empty; its hook state stays.
 #[tactic(auto, unfolding(crate::specs::Rows::row_of))]
-pub(crate) fn clear(rows: &mut Rows, line: u32, alloc: Global) -> Result<(), LineFault>
+pub(crate) fn clear(rows: &mut Rows, line: u32) -> Result<(), LineFault>
     ensures rows { (n : ℕ) → row_of rows.new.entries n ≡ (if n == line then after (λ row. Some (stays (cleared row))) (row_of rows.old.entries line) else row_of rows.old.entries n) }
     ensures answer { noteless result ≡ answer_on (row_of rows.old.entries line) (λ row. Some (stays (cleared row))) }
 {
     match rows.get_mut(&line) {
         Some(row) => {
-            row.clear(alloc);
+            row.clear();
             Ok(())
         }
         None => Err(LineFault::UnknownLine),
@@ -149,11 +149,11 @@ pub(crate) fn clear(rows: &mut Rows, line: u32, alloc: Global) -> Result<(), Lin
 
 /// Every line is silent and its Events descriptor empty; hook states stay.
 #[tactic(auto, unfolding(crate::specs::Rows::row_of))]
-pub(crate) fn clear_all(rows: &mut Rows, alloc: Global)
+pub(crate) fn clear_all(rows: &mut Rows)
     ensures { (n : ℕ) → row_of rows.new.entries n ≡ option_map cleared (row_of rows.old.entries n) }
 {
     rows.retain(|_, row| {
-        row.clear(alloc);
+        row.clear();
         true
     });
 }
