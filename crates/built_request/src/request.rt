@@ -50,12 +50,21 @@ impl<'a> Request<'a> {
         ensures some { IfSome result (λ command. self.old ≡ command ∷ self.new) }
         ensures none { IfNone result (self.old ≡ []) }
     {
+        self.take_next().copied()
+    }
+
+    /// Takes the first command that is left where the script has it; `None` where none is.
+    #[inline(always)]
+    pub fn take_next(&mut self) -> Option<&'a Command>
+        ensures some { IfSome result (λ command. self.old ≡ command.now ∷ self.new) }
+        ensures none { IfNone result (self.old ≡ []) }
+    {
         for place in self.place..self.commands.len() {
             let command = &self.commands[place];
             if self.names.know_all_of(command) {
                 self.names.add_created(command);
                 self.place = place + 1;
-                return Some(*command);
+                return Some(command);
             }
         }
         None

@@ -2,7 +2,7 @@
 use Rattle.std.proofs.Common.{◌≡◌, ◌≤◌, length, drop}
 use Rattle.mg_model.specs.Request.{built}
 use Rattle.built_request.specs.Known.{names_of}
-use Rattle.built_request.proofs.request.Request.take_first.Given as goal
+use Rattle.built_request.proofs.request.Request.take_next.Given as goal
 
 abbrev pub invariant-loop-place : goal.invariant-loop-place
 invariant-loop-place l = record {
