@@ -223,11 +223,11 @@ pub(crate) fn commands(
 {
     let mut left = Request::new(script, names.names(), state);
     let mut created = CreatedAt::none();
-    let mut found = Vec::new(alloc);
+    let mut found = Vec::with_capacity(alloc, script.commands_of(state).len())?;
     let mut place = 0usize;
-    while let Some(next) = left.take_first() {
-        found.push(command(alloc, script, names, &created, &next)?)?;
-        created.add(&next, place);
+    while let Some(next) = left.take_next() {
+        found.push(command(alloc, script, names, &created, next)?)?;
+        created.add(next, place);
         place += 1;
     }
     Ok(found)

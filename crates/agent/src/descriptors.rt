@@ -35,7 +35,7 @@ fn list_items(
 ) -> Result<Vec<ListItem>, AllocError>
     ensures { IfOk result (λ found. found.items ≡ map (list_item script.now) items.now) }
 {
-    let mut found = Vec::new(alloc);
+    let mut found = Vec::with_capacity(alloc, items.len())?;
     for item in items {
         let item = list_item(alloc, script, item)?;
         found.push(item)?;

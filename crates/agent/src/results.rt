@@ -210,10 +210,10 @@ pub(crate) fn after(
     let mut left = Request::new(script, bindings.names(), state);
     let mut after = *bindings;
     for done in results {
-        let Some(command) = left.take_first() else {
+        let Some(command) = left.take_next() else {
             return after;
         };
-        after.take(&command, done, number);
+        after.take(command, done, number);
     }
     after
 }
