@@ -6,8 +6,8 @@ MARK = " => "
 # The program that answers them.
 PROGRAM = "test_rows"
 # The layers: of a gateway, and of calls.
-GATEWAY = ("identifiers", "terminations", "contexts", "digits", "line_events", "delivery", "requests", "gateway")
-CALLS = ("agents", "calls", "shards")
+GATEWAY = ("terminations", "contexts", "line_events", "requests", "gateway")
+CALLS = ("agents", "shards")
 
 
 def files():

@@ -31,6 +31,18 @@ fn write_plain(page: &mut Page, script: &Script, plain: &Plain) -> Answer {
     write_standing(page, script, plain.state(), phase, plain.association())
 }
 
+/// Notes of lower numbers than this are told where a call has to leave all as it was; rows name no others.
+const NOTES: u32 = 16;
+
+/// Tells which of the first notes of its association an agent hasn't accepted.
+fn show_new(page: &mut Page, plain: &Plain) {
+    for note in 0..NOTES {
+        if plain.is_new(plain.association(), note) {
+            page.numbered(" ", u64::from(note));
+        }
+    }
+}
+
 /// A step of an agent.
 fn step(plain: &mut Plain, script: &Script, told: &Delivered) -> Result<(), PlainFault> {
     match told {
@@ -190,11 +202,9 @@ impl Agents<'_> {
 impl Layer for Agents<'_> {
     fn show(&self, page: &mut Page) {
         page.numbered("next number ", self.plain.next_number());
-        page.say(if self.plain.is_new(self.plain.association(), 1) {
-            ", new, "
-        } else {
-            ", "
-        });
+        page.say(", new notes");
+        show_new(page, &self.plain);
+        page.say(", ");
         write_plain(page, self.script, &self.plain);
     }
 

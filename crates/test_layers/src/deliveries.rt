@@ -16,8 +16,8 @@ use script_table::Script;
 use std::alloc::{AllocError, Global};
 
 /// What reaches a call.
-#[derive(Debug, Drop)]
-pub enum Delivered {
+#[derive(Drop)]
+pub(crate) enum Delivered {
     /// A reply to a request.
     Reply(Reply),
     /// That it is to go on from an empty request.
@@ -31,7 +31,7 @@ pub enum Delivered {
 }
 
 /// The call that messages are of, on the lines of the gateway for the lines of its script.
-#[derive(Clone, Copy, Debug)]
+#[derive(Clone, Copy)]
 pub(crate) struct Party {
     /// Its number.
     pub(crate) call: CallNo,
@@ -120,17 +120,22 @@ fn raised(alloc: Global, line: LineNo, kind: Kind, request: u32) -> Result<Note,
     }
 }
 
-/// A note as a row writes it: its number, its line, what happened there, and the RequestID.
-type Written = (u32, LineNo, Kind, u32);
+/// A note as a row writes it: its number, its line, what happened there, the RequestID, and its association.
+type Written = (u32, LineNo, Kind, u32, u32);
 
-/// The words of a note: `1 a.of request 0`.
+/// The words of a note: `1 a.of request 0`, or `1 a.of request 0 in 3`.
 fn note_words(script: &Script, party: &Party, words: &mut Words<'_>) -> Option<Written> {
     let number = words.number()?;
     let (name, kind) = words.next().split_once('.')?;
     let line = line_of(script, party, name)?;
     let kind = Kind::read(kind)?;
     let _request = words.next();
-    Some((number, line, kind, words.number()?))
+    let request = words.number()?;
+    let association = match words.next() {
+        "in" => words.number()?,
+        _ => 1,
+    };
+    Some((number, line, kind, request, association))
 }
 
 /// A note of a call.
@@ -140,12 +145,12 @@ fn note(
     party: &Party,
     words: &mut Words<'_>,
 ) -> Result<Delivered, Answer> {
-    let Some((number, line, kind, request)) = note_words(script, party, words) else {
+    let Some((number, line, kind, request, of)) = note_words(script, party, words) else {
         return Err(Answer::NoCall);
     };
     let id = MessageId {
         call: party.call,
-        association: Assoc(1),
+        association: Assoc(u64::from(of)),
         number,
     };
     match raised(alloc, line, kind, request) {

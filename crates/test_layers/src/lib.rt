@@ -1,26 +1,21 @@
-//! Rows of layers (`tests/rows`): of the gateway's, numbers that are given, terminations, boards, digit maps, lines, links, requests and gateways, and agents and
-//! typed calls above them. The call of each row is made, and the row stands on a sheet with its answer; `test_rows` reads the rows and writes the sheet. No
-//! part of the product. It promises nothing; what it is proved to be is safe. The proof of a function costs by what it owns at each of its exits: so what is
-//! written goes to a page that notes itself that it had no room, and few functions own anything.
+//! Rows of layers (`tests/rows`): of the gateway's, terminations, boards, lines with their digit maps, requests and gateways, and of agents above them. The call
+//! of each row is made, and the row stands on a sheet with its answer; `test_rows` reads the rows and writes the sheet. No part of the product. It promises
+//! nothing; what it is proved to be is safe. The proof of a function costs by what it owns at each of its exits: so what is written goes to a page that notes
+//! itself that it had no room, and few functions own anything.
 #![tactic(auto)]
 
 mod agents;
 mod board_reads;
 mod board_seen;
 mod boards;
-mod calls;
 mod commands;
-pub mod deliveries;
-mod digit_maps;
+mod deliveries;
 mod events;
 mod gateways;
 mod given;
 mod items;
 mod lines;
-mod links;
-mod mail;
 mod names;
-mod numbers;
 mod options;
 pub mod pages;
 mod replies;
@@ -31,7 +26,6 @@ pub mod sheets;
 mod signals;
 mod tables;
 pub mod told;
-pub mod typed;
 pub mod words;
 
 use crate::sheets::{End, Sheet};
@@ -40,16 +34,12 @@ use std::alloc::Global;
 /// Adds the rows of a layer of the gateway or of calls to a sheet, with their answers; none of another layer.
 pub fn play(alloc: Global, sheet: &mut Sheet, layer: &str, rows: &str) -> End {
     match layer {
-        "identifiers" => numbers::play(alloc, sheet, rows),
         "terminations" => tables::play(alloc, sheet, rows),
         "contexts" => boards::play(alloc, sheet, rows),
-        "digits" => digit_maps::play(alloc, sheet, rows),
         "line_events" => lines::play(alloc, sheet, rows),
-        "delivery" => links::play(alloc, sheet, rows),
         "requests" => runs::play(alloc, sheet, rows),
         "gateway" => gateways::play(alloc, sheet, rows),
         "agents" => agents::play(alloc, sheet, rows),
-        "calls" => calls::play(alloc, sheet, rows),
         _ => End::Well,
     }
 }

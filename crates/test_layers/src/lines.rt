@@ -4,6 +4,7 @@ use crate::pages::{Answer, Page};
 use crate::sheets::{End, Layer, Sheet};
 use crate::words::Words;
 use crate::{names, signals};
+use digits::{DigitMap, MapFault};
 use line_events::{LineFault, LineSet, Note};
 use mg_model::line_events::LineEvent;
 use mg_names::identifiers::LineNo;
@@ -40,6 +41,28 @@ fn write_did(page: &mut Page, answer: Result<(), LineFault>) -> Answer {
     match answer {
         Ok(()) => page.done(),
         Err(fault) => write_fault(page, fault),
+    }
+}
+
+/// Writes why a text is no digit map, and at which byte of it, from 0.
+fn write_map_fault(page: &mut Page, fault: MapFault) -> Answer {
+    page.refused(u16::from(fault.number()), fault.name());
+    match fault {
+        MapFault::BadSymbol { at } | MapFault::BadRange { at } => page.numbered(" at ", at as u64),
+        MapFault::NoMemory => return Answer::NoMemory,
+        MapFault::Empty | MapFault::TooLong => {}
+    }
+    Answer::Told
+}
+
+/// Writes how many alternatives the copy of a map has.
+fn write_map(page: &mut Page, alloc: Global, map: &DigitMap) -> Answer {
+    match map.copy(alloc) {
+        Ok(copied) => {
+            page.numbered("alternatives ", copied.alternatives().len() as u64);
+            Answer::Told
+        }
+        Err(_) => Answer::NoMemory,
     }
 }
 
@@ -129,6 +152,14 @@ impl Lines {
         }
     }
 
+    /// Writes what a text is as a digit map.
+    fn map(&self, page: &mut Page, text: &str) -> Answer {
+        match DigitMap::parse(self.alloc, text) {
+            Ok(map) => write_map(page, self.alloc, &map),
+            Err(fault) => write_map_fault(page, fault),
+        }
+    }
+
     /// What is done to all lines.
     fn of_all(&mut self, page: &mut Page, verb: &str) -> Answer {
         match verb {
@@ -151,6 +182,9 @@ impl Layer for Lines {
     fn answer(&mut self, page: &mut Page, words: Words<'_>) -> Answer {
         let mut words = words;
         let verb = words.next();
+        if verb == "map" {
+            return self.map(page, words.rest());
+        }
         match names::line(words.next()) {
             Some(line) => self.of_line(page, verb, line, &mut words),
             None => self.of_all(page, verb),

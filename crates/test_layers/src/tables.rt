@@ -2,10 +2,10 @@
 use crate::board_seen::show_row;
 use crate::names::{self, NO_NAMES, Names};
 use crate::pages::{Answer, Page};
+use crate::results;
 use crate::sheets::{End, Layer, Sheet};
 use crate::words::Words;
-use crate::{numbers, results};
-use contexts::{AddLineFault, Terms};
+use contexts::{AddLineFault, CreateFault, Terms};
 use mg_names::codes::Code;
 use mg_names::identifiers::{LineNo, TermId};
 use mg_names::modes::Mode;
@@ -26,6 +26,14 @@ fn write_did(page: &mut Page, answer: Result<(), Code>) -> Answer {
     match answer {
         Ok(()) => page.done(),
         Err(code) => results::write_code(page, code),
+    }
+}
+
+/// Writes why no number is given.
+fn write_full(page: &mut Page, fault: CreateFault) -> Answer {
+    match fault {
+        CreateFault::NoMemory => Answer::NoMemory,
+        CreateFault::Full => page.refused(u16::from(fault.number()), fault.name()),
     }
 }
 
@@ -116,7 +124,7 @@ impl Tables {
                 Answer::Told
             }
             Ok(TermId::Line(_)) => Answer::NoCall,
-            Err(fault) => numbers::write_fault(page, fault),
+            Err(fault) => write_full(page, fault),
         }
     }
 
@@ -183,15 +191,15 @@ impl Tables {
         }
     }
 
-    /// What is done to all terminations.
-    fn of_all(&mut self, page: &mut Page, verb: &str) -> Answer {
+    /// Does what is done to all terminations, where the verb is of that.
+    fn is_of_all(&mut self, verb: &str) -> bool {
         match verb {
             "settle" => self.terms.settle(),
             "reset" => self.terms.reset(),
             "swap" => mem::swap(&mut self.terms, &mut self.kept),
-            _ => return Answer::NoCall,
+            _ => return false,
         }
-        page.done()
+        true
     }
 }
 
@@ -213,8 +221,12 @@ impl Layer for Tables {
             "lines" => self.write_lines(page),
             "ephemerals" => self.write_ephemerals(page),
             "copy" => self.keep(page),
-            "settle" | "reset" | "swap" => self.of_all(page, verb),
-            _ => self.of_termination(page, verb, &mut words),
+            _ => {
+                if self.is_of_all(verb) {
+                    return page.done();
+                }
+                self.of_termination(page, verb, &mut words)
+            }
         }
     }
 }

@@ -8,7 +8,7 @@ use requests::Request;
 use script_table::Script;
 
 /// What a call does in its state.
-#[derive(Clone, Copy, Debug, PartialEq, Eq)]
+#[derive(Clone, Copy)]
 pub enum Phase {
     /// It rests.
     Resting,
@@ -21,7 +21,7 @@ pub enum Phase {
 }
 
 /// The phase of a call that waits.
-pub(crate) fn waiting(request: Option<&Request>) -> Phase {
+pub fn waiting(request: Option<&Request>) -> Phase {
     match request {
         Some(request) => Phase::Asking(request.number(), request.commands().len()),
         None => Phase::Passing,

@@ -4,9 +4,11 @@
 //! status is 4. It promises nothing else.
 #![tactic(auto)]
 
+mod apart;
 mod plan_steps;
 mod shard_opening;
 mod shard_rows;
+mod typed;
 
 use std::alloc::Global;
 use std::io::{self, Read};

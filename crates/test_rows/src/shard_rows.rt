@@ -1,21 +1,21 @@
 //! The layer of shards: a gateway with its calls and their history, which takes a call, an event of it, and hands the call back. Calls are named by their
 //! places, 0 and 1.
+use crate::apart;
 use crate::plan_steps::{self, event};
 use crate::shard_opening::{checked, opened};
+use crate::typed::{self, call_of, events, write_faults, write_next};
 use agent::{Next, Refusal};
 use composition::{CheckFault, Checked, Verdict};
 use mg_model::events::Event;
 use mg_model::plans::PlanStep;
-use mg_names::identifiers::{Assoc, CallNo};
+use mg_names::identifiers::CallNo;
 use script_table::Script;
 use shards::{RestartFault, Shard, Stepped};
 use std::alloc::Global;
-use test_layers::deliveries::Delivered;
 use test_layers::pages::{Answer, Page};
 use test_layers::scripts::{document, write_sizes};
 use test_layers::sheets::{End, Layer, Sheet};
 use test_layers::told::{write_event, write_events, write_state};
-use test_layers::typed::{self, Done, call_of, write_next};
 use test_layers::words::Words;
 
 /// The number of a call that begins is so much higher than that of the one before it.
@@ -96,29 +96,6 @@ fn go<'s>(
             (next, answer)
         }
     }
-}
-
-/// A call hears of an association without its shard.
-fn hear_apart<'s>(
-    page: &mut Page,
-    script: &Script,
-    next: Next<'s>,
-    words: &mut Words<'_>,
-) -> (Next<'s>, Answer) {
-    let (_hear, Some(of)) = (words.next(), words.number()) else {
-        return (next, Answer::NoCall);
-    };
-    let (next, done) = typed::step(next, &Delivered::Hear(Assoc(u64::from(of))));
-    if done == Done::Refused(Refusal::NoMemory) {
-        return (next, Answer::NoMemory);
-    }
-    page.say(if done == Done::Taken {
-        "taken, "
-    } else {
-        "refused, "
-    });
-    let answer = write_next(page, script, &next);
-    (next, answer)
 }
 
 /// Writes what a shard has of a call.
@@ -272,7 +249,12 @@ impl<'s> Shards<'s> {
                 Ok(step) => go(page, script, shard, next, &step),
                 Err(answer) => (next, answer),
             },
-            "apart" => hear_apart(page, script, next, words),
+            "apart" => apart::hear(page, script, next, words),
+            "log" => apart::log(page, script, next, words),
+            "transcript" => {
+                let answer = write_events(page, events(&next));
+                (next, answer)
+            }
             _ => match event(words) {
                 Some(event) => {
                     let call = call_of(&next);
@@ -324,8 +306,11 @@ impl Layer for Shards<'_> {
         match verb {
             "script" => write_sizes(page, self.checked.script()),
             "certificate" => self.write_yes(page),
+            "faults" => write_faults(page),
             "open" => self.open(page, words.rest()),
-            "call" | "apart" | "event" => self.with_call(page, verb, &mut words),
+            "call" | "apart" | "log" | "transcript" | "event" => self.with_call(
+                page, verb, &mut words,
+            ),
             _ => self.alone(page, verb, &mut words),
         }
     }
