@@ -41,13 +41,21 @@ fn write_existing(page: &mut Page, names: &Names, board: &Board) -> Answer {
     }
 }
 
+/// Whether media from one termination to another is cut.
+fn is_cut(names: &Names, board: &Board, from: &str, to: &str) -> Option<bool> {
+    match (names.termination(from), names.termination(to)) {
+        (Some(from), Some(to)) => Some(board.is_cut(from, to)),
+        _ => None,
+    }
+}
+
 /// Whether media from one termination to another is cut, goes, or goes either way, as the verb asks.
 fn asked(names: &Names, board: &Board, verb: &str, words: &mut Words<'_>) -> Option<bool> {
     let (first, second) = (words.next(), words.next());
-    match verb {
-        "cut" => Some(board.is_cut(names.termination(first)?, names.termination(second)?)),
-        "path" => Some(board.path(names::line(first)?, names::line(second)?)),
-        "joined" => Some(board.joined(names::line(first)?, names::line(second)?)),
+    match (names::line(first), names::line(second)) {
+        (Some(one), Some(other)) if verb == "path" => Some(board.path(one, other)),
+        (Some(one), Some(other)) if verb == "joined" => Some(board.joined(one, other)),
+        _ if verb == "cut" => is_cut(names, board, first, second),
         _ => None,
     }
 }
@@ -55,10 +63,19 @@ fn asked(names: &Names, board: &Board, verb: &str, words: &mut Words<'_>) -> Opt
 /// The number that a verb asks for: of the members of a context, of a context or an ephemeral that was given, or what is left where that is divided.
 fn number_of(names: &Names, board: &Board, verb: &str, words: &mut Words<'_>) -> Option<u64> {
     let word = words.next();
-    match verb {
-        "members" => Some(board.members(names.context(word)?).len() as u64),
-        "number" => Some(u64::from(names.number(word)?)),
-        _ => Some(u64::from(names.number(word)?.checked_rem(words.number()?)?)),
+    if verb == "members" {
+        return match names.context(word) {
+            Some(context) => Some(board.members(context).len() as u64),
+            None => None,
+        };
+    }
+    match (names.number(word), words.number()) {
+        (Some(number), Some(by)) if verb == "rest" => match number.checked_rem(by) {
+            Some(left) => Some(u64::from(left)),
+            None => None,
+        },
+        (Some(number), None) if verb == "number" => Some(u64::from(number)),
+        _ => None,
     }
 }
 
@@ -78,14 +95,25 @@ pub(crate) fn write_read(
             Some(termination) => names.write_row(page, board.get(termination)),
             None => Answer::NoCall,
         },
-        "members" | "number" | "rest" => match number_of(names, board, verb, words) {
-            Some(number) => {
-                page.number(number);
-                Answer::Told
-            }
-            None => Answer::NoCall,
-        },
-        _ => match asked(names, board, verb, words) {
+        _ => write_found(page, names, board, verb, *words),
+    }
+}
+
+/// Writes the number that a verb asks for, or whether media is cut or goes.
+fn write_found(
+    page: &mut Page,
+    names: &Names,
+    board: &Board,
+    verb: &str,
+    words: Words<'_>,
+) -> Answer {
+    let (mut number, mut media) = (words, words);
+    match number_of(names, board, verb, &mut number) {
+        Some(number) => {
+            page.number(number);
+            Answer::Told
+        }
+        None => match asked(names, board, verb, &mut media) {
             Some(answer) => page.yes_or_no(answer),
             None => Answer::NoCall,
         },

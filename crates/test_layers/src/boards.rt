@@ -5,8 +5,9 @@ use crate::sheets::{End, Layer, Sheet};
 use crate::words::Words;
 use crate::{board_reads, board_seen, items, results};
 use contexts::{Board, ExecFault};
+use mg_model::items::Item;
 use mg_names::identifiers::LineNo;
-use std::alloc::{AllocError, Global};
+use std::alloc::Global;
 use std::mem;
 
 /// A board, with another one that is kept beside it, and the names of what the first one gave.
@@ -19,41 +20,34 @@ struct Boards {
     names: Names,
 }
 
-/// A board with these lines, whose numbers leave `first` where they are divided by `stride`.
-fn made(alloc: Global, lines: &[LineNo], (first, stride): (u32, u32)) -> Result<Board, AllocError> {
-    if first >= stride {
-        return Board::new(alloc, lines);
-    }
-    Board::with_ids(alloc, lines, first, stride)
-}
-
-/// Boards without lines.
-fn open(alloc: Global) -> Result<Boards, AllocError> {
-    Ok(Boards {
-        alloc,
-        lines: Vec::with_capacity(alloc, 24)?,
-        board: Board::new(alloc, &[])?,
-        kept: Board::new(alloc, &[])?,
-        names: NO_NAMES,
-    })
-}
-
 /// The rows of boards.
 pub(crate) fn play(alloc: Global, sheet: &mut Sheet, rows: &str) -> End {
-    match open(alloc) {
-        Ok(mut boards) => sheet.play(&mut boards, rows),
-        Err(_) => End::NoMemory,
+    match (Board::new(alloc, &[]), Board::new(alloc, &[])) {
+        (Ok(board), Ok(kept)) => {
+            let mut boards = Boards {
+                alloc,
+                lines: Vec::new(alloc),
+                board,
+                kept,
+                names: NO_NAMES,
+            };
+            sheet.play(&mut boards, rows)
+        }
+        _ => End::NoMemory,
     }
 }
 
 impl Boards {
     /// A board with the lines that the words name, and of the class that they begin with, such as `class=3/16`.
     fn anew(&mut self, page: &mut Page, words: &mut Words<'_>) -> Answer {
-        let class = words.class();
+        let (first, stride) = words.class();
+        if first >= stride {
+            return Answer::NoCall;
+        }
         if names::read_lines(&mut self.lines, words.rest()) != Answer::Told {
             return Answer::NoMemory;
         }
-        match made(self.alloc, self.lines.as_slice(), class) {
+        match Board::with_ids(self.alloc, self.lines.as_slice(), first, stride) {
             Ok(board) => {
                 self.board = board;
                 self.names = NO_NAMES;
@@ -63,12 +57,9 @@ impl Boards {
         }
     }
 
-    /// A command.
-    fn command(&mut self, page: &mut Page, verb: &str, words: &mut Words<'_>) -> Answer {
-        let Some(item) = items::item(&self.names, verb, words) else {
-            return Answer::NoCall;
-        };
-        match self.board.exec(&item) {
+    /// A command is executed.
+    fn command(&mut self, page: &mut Page, item: &Item) -> Answer {
+        match self.board.exec(item) {
             Ok(done) => {
                 results::give(&mut self.names, &done);
                 results::write_done(page, &self.names, &done)
@@ -89,14 +80,24 @@ impl Boards {
         }
     }
 
-    /// What is done to all of a board.
-    fn of_all(&mut self, page: &mut Page, verb: &str) -> Answer {
+    /// A command, or what is read of a board.
+    fn command_or_read(&mut self, page: &mut Page, verb: &str, words: Words<'_>) -> Answer {
+        let (mut command, mut read) = (words, words);
+        match items::item(&self.names, verb, &mut command) {
+            Some(item) => self.command(page, &item),
+            None => board_reads::write_read(page, &self.names, &self.board, verb, &mut read),
+        }
+    }
+
+    /// Does what is done to all of a board, where the verb is of that.
+    fn is_of_all(&mut self, verb: &str) -> bool {
         match verb {
             "settle" => self.board.settle(),
             "reset" => self.board.reset(),
-            _ => mem::swap(&mut self.board, &mut self.kept),
+            "swap" => mem::swap(&mut self.board, &mut self.kept),
+            _ => return false,
         }
-        page.done()
+        true
     }
 }
 
@@ -112,12 +113,13 @@ impl Layer for Boards {
         let verb = words.next();
         match verb {
             "new" => self.anew(page, &mut words),
-            "add" | "modify" | "move" | "subtract" | "topology" => {
-                self.command(page, verb, &mut words)
-            }
             "copy" => self.keep(page),
-            "settle" | "reset" | "swap" => self.of_all(page, verb),
-            _ => board_reads::write_read(page, &self.names, &self.board, verb, &mut words),
+            _ => {
+                if self.is_of_all(verb) {
+                    return page.done();
+                }
+                self.command_or_read(page, verb, words)
+            }
         }
     }
 }

@@ -79,8 +79,21 @@ pub(crate) fn event(verb: &str, words: &mut Words<'_>) -> Option<LineEvent> {
         "on" => Some(LineEvent::Hook(Hook::On)),
         "flash" => Some(LineEvent::Flash),
         "pause" => Some(LineEvent::Pause),
-        "digit" => Some(LineEvent::Digit(Symbol::read(words.next())?)),
-        "end" => Some(LineEvent::SignalEnd(Signal::read(words.next())?)),
+        _ => worded_event(verb, words.next()),
+    }
+}
+
+/// A symbol that is dialled, or a signal that ends.
+fn worded_event(verb: &str, word: &str) -> Option<LineEvent> {
+    match verb {
+        "digit" => match Symbol::read(word) {
+            Some(symbol) => Some(LineEvent::Digit(symbol)),
+            None => None,
+        },
+        "end" => match Signal::read(word) {
+            Some(signal) => Some(LineEvent::SignalEnd(signal)),
+            None => None,
+        },
         _ => None,
     }
 }

@@ -15,7 +15,10 @@ pub(crate) const NOTHING_GIVEN: Given = Given([None; MOST]);
 impl Given {
     /// The number at a place, from 1.
     pub(crate) fn number(&self, place: u32) -> Option<u32> {
-        *self.0.get((place as usize).checked_sub(1)?)?
+        match self.0.get((place as usize).wrapping_sub(1)) {
+            Some(known) => *known,
+            None => None,
+        }
     }
 
     /// The place of a number that was given, or the first free one, from 0.

@@ -2,7 +2,7 @@
 //! ephemeral that was given, `l/1` for line 1, `5` and `e/5` for the context and the ephemeral of that very number.
 use crate::given::{Given, NOTHING_GIVEN};
 use crate::pages::{Answer, Page};
-use crate::words::number;
+use crate::words::{number, number_behind};
 use mg_model::rows::Row;
 use mg_names::identifiers::{ContextId, LineNo, TermId};
 
@@ -21,12 +21,18 @@ pub(crate) const NO_NAMES: Names = Names {
 
 /// The line that a word names.
 pub(crate) fn line(word: &str) -> Option<LineNo> {
-    Some(LineNo(number(word.strip_prefix("l/")?)?))
+    match number_behind(word, "l/") {
+        Some(number) => Some(LineNo(number)),
+        None => None,
+    }
 }
 
 /// The number that a word such as `c2` names: that at a place of what was given.
-fn given(given: &Given, word: &str, sign: char) -> Option<u32> {
-    given.number(number(word.strip_prefix(sign)?)?)
+fn given(given: &Given, word: &str, sign: &str) -> Option<u32> {
+    match number_behind(word, sign) {
+        Some(place) => given.number(place),
+        None => None,
+    }
 }
 
 impl Names {
@@ -54,7 +60,7 @@ impl Names {
             "$" => Some(ContextId::CHOOSE),
             "-" => Some(ContextId::NULL),
             "*" => Some(ContextId::ALL),
-            _ => match given(&self.contexts, word, 'c') {
+            _ => match given(&self.contexts, word, "c") {
                 Some(context) => Some(ContextId(context)),
                 None => Some(ContextId(number(word)?)),
             },
@@ -63,9 +69,9 @@ impl Names {
 
     /// The ephemeral that a word names.
     pub(crate) fn ephemeral(&self, word: &str) -> Option<u32> {
-        match word.strip_prefix("e/") {
-            Some(text) => number(text),
-            None => given(&self.ephemerals, word, 'e'),
+        match number_behind(word, "e/") {
+            Some(number) => Some(number),
+            None => given(&self.ephemerals, word, "e"),
         }
     }
 

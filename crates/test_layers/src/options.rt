@@ -1,7 +1,7 @@
 //! What a command sets on its termination, as words such as `mode=SendOnly remote=e1 events=al/on:state+dd/ce:12|123 signals=cg/dt`.
 use crate::names::Names;
 use crate::signals;
-use crate::words::number;
+use crate::words::number_behind;
 use mg_model::items::{RemoteSetting, Settings};
 use mg_model::line_events::SignalSet;
 use mg_model::references::{EphemeralRef, RemoteRef, SettingsRef};
@@ -27,7 +27,10 @@ const NOTHING: Options<'static> = Options {
 
 /// The place that a word such as `@0` names: that of an earlier command of the request, from 0.
 pub(crate) fn place(word: &str) -> Option<usize> {
-    Some(number(word.strip_prefix('@')?)? as usize)
+    match number_behind(word, "@") {
+        Some(place) => Some(place as usize),
+        None => None,
+    }
 }
 
 /// The ephemeral that a word names.

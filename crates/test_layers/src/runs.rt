@@ -28,32 +28,18 @@ struct Runs {
     names: Names,
 }
 
-/// Connections with these lines, which give numbers of a class.
-fn made(
-    alloc: Global,
-    lines: &[LineNo],
-    (first, stride): (u32, u32),
-) -> Result<Connections, AllocError> {
-    if (first, stride) == (0, 1) || first >= stride {
-        return Connections::new(alloc, lines);
-    }
-    Connections::with_ids(alloc, lines, first, stride)
-}
-
-/// Connections without lines.
-fn open(alloc: Global) -> Result<Runs, AllocError> {
-    Ok(Runs {
-        alloc,
-        lines: Vec::with_capacity(alloc, 24)?,
-        connections: Connections::new(alloc, &[])?,
-        names: NO_NAMES,
-    })
-}
-
 /// The rows of requests.
 pub(crate) fn play(alloc: Global, sheet: &mut Sheet, rows: &str) -> End {
-    match open(alloc) {
-        Ok(mut runs) => sheet.play(&mut runs, rows),
+    match Connections::new(alloc, &[]) {
+        Ok(connections) => {
+            let mut runs = Runs {
+                alloc,
+                lines: Vec::new(alloc),
+                connections,
+                names: NO_NAMES,
+            };
+            sheet.play(&mut runs, rows)
+        }
         Err(_) => End::NoMemory,
     }
 }
@@ -112,11 +98,14 @@ fn followed(
 impl Runs {
     /// Connections with the lines that the words name.
     fn anew(&mut self, page: &mut Page, words: &mut Words<'_>) -> Answer {
-        let class = words.class();
+        let (first, stride) = words.class();
+        if first >= stride {
+            return Answer::NoCall;
+        }
         if names::read_lines(&mut self.lines, words.rest()) != Answer::Told {
             return Answer::NoMemory;
         }
-        match made(self.alloc, self.lines.as_slice(), class) {
+        match Connections::with_ids(self.alloc, self.lines.as_slice(), first, stride) {
             Ok(connections) => {
                 self.connections = connections;
                 self.names = NO_NAMES;
@@ -230,6 +219,18 @@ impl Runs {
             },
         }
     }
+
+    /// What is done to a line, or read of it or of the board.
+    fn of_line_or_read(&mut self, page: &mut Page, verb: &str, words: Words<'_>) -> Answer {
+        let (mut of_line, mut read) = (words, words);
+        match self.of_line(page, verb, &mut of_line) {
+            Answer::NoCall => {
+                let board = self.connections.board();
+                board_reads::write_read(page, &self.names, board, verb, &mut read)
+            }
+            answer => answer,
+        }
+    }
 }
 
 impl Layer for Runs {
@@ -252,22 +253,7 @@ impl Layer for Runs {
                 self.connections.restart();
                 page.done()
             }
-            "show"
-            | "members"
-            | "number"
-            | "lines"
-            | "ephemerals"
-            | "contexts"
-            | "cut"
-            | "path"
-            | "joined" => board_reads::write_read(
-                page,
-                &self.names,
-                self.connections.board(),
-                verb,
-                &mut words,
-            ),
-            _ => self.of_line(page, verb, &mut words),
+            _ => self.of_line_or_read(page, verb, words),
         }
     }
 }

@@ -19,7 +19,7 @@ pub trait Layer {
 }
 
 /// How the rows of a file ended.
-#[derive(Clone, Copy, Debug, PartialEq, Eq)]
+#[derive(Clone, Copy, PartialEq, Eq)]
 pub enum End {
     /// All are answered.
     Well,

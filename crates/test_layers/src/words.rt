@@ -68,10 +68,21 @@ pub fn number(word: &str) -> Option<u32> {
     word.parse::<u32>().ok()
 }
 
+/// The number behind a sign, as in `l/7`.
+pub(crate) fn number_behind(word: &str, sign: &str) -> Option<u32> {
+    match word.strip_prefix(sign) {
+        Some(text) => number(text),
+        None => None,
+    }
+}
+
 /// Both numbers of a word such as `3/16`.
 pub fn two_numbers(word: &str) -> Option<(u32, u32)> {
     let (first, second) = word.split_once('/')?;
-    Some((number(first)?, number(second)?))
+    match (number(first), number(second)) {
+        (Some(first), Some(second)) => Some((first, second)),
+        _ => None,
+    }
 }
 
 /// The row in a line, without the answer that may stand behind it; none in a comment, an empty line or a line of a document.
