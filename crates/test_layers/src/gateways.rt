@@ -8,7 +8,7 @@ use gateway::{Answer as Executed, BeginFault, Gateway, OpenFault, SentNote};
 use mg_model::failures::ChosenRefusal;
 use mg_names::identifiers::{Assoc, CallNo, LineNo};
 use requests::{MessageId, Request, RequestCommand};
-use std::alloc::{AllocError, Global};
+use std::alloc::Global;
 
 /// A gateway, and the names of what it gave.
 #[derive(Drop)]
@@ -27,32 +27,18 @@ struct Head {
     chosen: Option<ChosenRefusal>,
 }
 
-/// A gateway with these lines, which gives numbers of a class.
-fn made(
-    alloc: Global,
-    lines: &[LineNo],
-    (first, stride): (u32, u32),
-) -> Result<Gateway, AllocError> {
-    if (first, stride) == (0, 1) || first >= stride {
-        return Gateway::new(alloc, lines);
-    }
-    Gateway::with_ids(alloc, lines, first, stride)
-}
-
-/// A gateway without lines.
-fn open(alloc: Global) -> Result<Gateways, AllocError> {
-    Ok(Gateways {
-        alloc,
-        lines: Vec::with_capacity(alloc, 24)?,
-        gateway: Gateway::new(alloc, &[])?,
-        names: NO_NAMES,
-    })
-}
-
 /// The rows of gateways.
 pub(crate) fn play(alloc: Global, sheet: &mut Sheet, rows: &str) -> End {
-    match open(alloc) {
-        Ok(mut gateways) => sheet.play(&mut gateways, rows),
+    match Gateway::new(alloc, &[]) {
+        Ok(gateway) => {
+            let mut gateways = Gateways {
+                alloc,
+                lines: Vec::new(alloc),
+                gateway,
+                names: NO_NAMES,
+            };
+            sheet.play(&mut gateways, rows)
+        }
         Err(_) => End::NoMemory,
     }
 }
@@ -145,11 +131,14 @@ fn show_gateway(page: &mut Page, gateway: &Gateway) {
 impl Gateways {
     /// A gateway with the lines that the words name.
     fn anew(&mut self, page: &mut Page, words: &mut Words<'_>) -> Answer {
-        let class = words.class();
+        let (first, stride) = words.class();
+        if first >= stride {
+            return Answer::NoCall;
+        }
         if names::read_lines(&mut self.lines, words.rest()) != Answer::Told {
             return Answer::NoMemory;
         }
-        match made(self.alloc, self.lines.as_slice(), class) {
+        match Gateway::with_ids(self.alloc, self.lines.as_slice(), first, stride) {
             Ok(gateway) => {
                 self.gateway = gateway;
                 self.names = NO_NAMES;
@@ -271,6 +260,18 @@ impl Gateways {
         }
     }
 
+    /// Writes what is read of a line or an ephemeral of the gateway, or of its board.
+    fn write_of_one(&self, page: &mut Page, verb: &str, words: Words<'_>) -> Answer {
+        let (mut one, mut read) = (words, words);
+        match self.write_of(page, verb, one.next()) {
+            Answer::NoCall => {
+                let board = self.gateway.board();
+                board_reads::write_read(page, &self.names, board, verb, &mut read)
+            }
+            answer => answer,
+        }
+    }
+
     /// Writes whether a call is open.
     fn write_is_open(&self, page: &mut Page, call: Option<u32>) -> Answer {
         match call {
@@ -289,8 +290,16 @@ impl Gateways {
             "open?" => self.write_is_open(page, words.number()),
             "calls" => self.write_open(page),
             "lines" => self.write_lines(page),
-            "holder" | "line" | "creator" => self.write_of(page, verb, words.next()),
-            _ => board_reads::write_read(page, &self.names, self.gateway.board(), verb, words),
+            _ => self.write_of_one(page, verb, *words),
+        }
+    }
+
+    /// Something happens on a line, or what is read of the gateway.
+    fn happen_or_read(&mut self, page: &mut Page, verb: &str, words: Words<'_>) -> Answer {
+        let (mut happening, mut read) = (words, words);
+        match self.happen(page, verb, &mut happening) {
+            Answer::NoCall => self.write_read(page, verb, &mut read),
+            answer => answer,
         }
     }
 }
@@ -310,11 +319,8 @@ impl Layer for Gateways {
             "open" => self.open_call(page, &mut words),
             "begin" => self.begin(page, &mut words),
             "execute" => self.execute(page, &mut words),
-            "off" | "on" | "flash" | "pause" | "digit" | "end" => {
-                self.happen(page, verb, &mut words)
-            }
             "restart" => self.restart(page),
-            _ => self.write_read(page, verb, &mut words),
+            _ => self.happen_or_read(page, verb, words),
         }
     }
 }
