@@ -15,7 +15,7 @@ use script_table::Script;
 /// What the names of a call stand for: of each line of the script the number of the gateway's, of each context and ephemeral the number
 /// that it is bound to, and of each line the RequestID that is expected in its notes. What a script has fewer of than four is 0, or
 /// bound to nothing. This profile's own.
-#[derive(Clone, Copy, Debug)]
+#[derive(Clone, Copy)]
 pub(crate) struct Bindings {
     pub(crate) lines: [u32; 4],
     pub(crate) contexts: [Option<u32>; 4],

@@ -7,7 +7,7 @@ use mg_model::commands::Command;
 use mg_names::slots::Slot;
 
 /// The places, from 0, of the commands of a request that created names, so far. This profile's own.
-#[derive(Clone, Copy, Debug)]
+#[derive(Clone, Copy)]
 pub(crate) struct CreatedAt {
     contexts: [Option<usize>; 4],
     ephemerals: [Option<usize>; 4],

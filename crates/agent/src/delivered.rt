@@ -3,7 +3,7 @@ use mg_names::identifiers::Assoc;
 use requests::{Reply, SentNote};
 
 /// What reaches an agent: each is what one of its steps is taken at.
-#[derive(Clone, Copy, Debug)]
+#[derive(Clone, Copy)]
 pub enum Delivery<'a> {
     /// A reply to a request (H.248.1 section 8.2.2).
     Reply(&'a Reply),

@@ -14,7 +14,7 @@ use std::alloc::Global;
 
 /// What a call enters a state with: the state that it is in, the association, the number of the next request, from 1 to one more than
 /// the last number, and what its names stand for.
-#[derive(Clone, Copy, Debug)]
+#[derive(Clone, Copy)]
 pub(crate) struct Start {
     pub(crate) call: CallNo,
     pub(crate) state: u8,
@@ -24,7 +24,7 @@ pub(crate) struct Start {
 }
 
 /// What a call has once it entered a state.
-#[derive(Debug, Drop)]
+#[derive(Drop)]
 pub(crate) struct Entered {
     pub(crate) state: u8,
     pub(crate) phase: Phase,

@@ -2,7 +2,7 @@
 use requests::Request;
 
 /// What an agent waits for. This profile's own.
-#[derive(Debug, Drop)]
+#[derive(Drop)]
 pub(crate) enum Phase {
     /// The reply to a request.
     AwaitsReply(Request),

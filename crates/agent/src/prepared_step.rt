@@ -15,7 +15,7 @@ use std::marker::Model;
 
 /// A step of an agent that is prepared: all its memory is there, and nothing can refuse it any more. `Plain::finish` puts it in place, and
 /// `Plain::cancel` takes it back. It is of the agent that prepared it, which is to take no other step before. This profile's own.
-#[derive(Debug, Drop)]
+#[derive(Drop)]
 pub struct PreparedStep {
     pub(crate) bindings: Bindings,
     pub(crate) entered: Entered,

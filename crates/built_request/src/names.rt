@@ -8,7 +8,7 @@ use mg_names::slots::Slot;
 
 /// The names that commands of a request may use: those that are bound as it is built, and those that its earlier
 /// commands create. This profile's own.
-#[derive(Clone, Copy, Debug)]
+#[derive(Clone, Copy)]
 pub struct Names {
     contexts: [bool; 4],
     ephemerals: [bool; 4],

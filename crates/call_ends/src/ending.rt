@@ -19,7 +19,7 @@ pub enum Ending {
 }
 
 /// What is known of how calls that are in a state can be brought to their ends. This profile's own.
-#[derive(Clone, Copy, Debug)]
+#[derive(Clone, Copy)]
 pub struct StateEnding {
     /// The place of the state, from 0.
     pub state: u8,

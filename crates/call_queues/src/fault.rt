@@ -2,7 +2,7 @@
 use std::alloc::{AllocError, AllocFailed};
 
 /// Why calls don't pass through the queues. This profile's own.
-#[derive(Clone, Copy, Debug, PartialEq, Eq)]
+#[derive(Clone, Copy)]
 pub enum QueueFault {
     /// Too many places are away, one is away still, or one comes back that isn't; or a call stands in a queue still, or has no place.
     Disagree,

@@ -10,7 +10,7 @@ use script_table::Script;
 use std::alloc::{AllocError, Global};
 
 /// What brings a call into a state. This profile's own.
-#[derive(Clone, Copy, Debug, PartialEq, Eq)]
+#[derive(Clone, Copy)]
 pub enum EnteredBy {
     /// A reply without a failure.
     Reply,
@@ -25,7 +25,7 @@ pub enum EnteredBy {
 }
 
 /// An arrow of a script. States go by their places, from 0. This profile's own.
-#[derive(Clone, Copy, Debug, PartialEq, Eq)]
+#[derive(Clone, Copy)]
 pub struct Arrow {
     /// The state that it leads from; of a restart, which is heard of in any, 0.
     pub from: u8,

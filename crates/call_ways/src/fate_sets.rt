@@ -10,7 +10,7 @@ use script_table::Script;
 use std::alloc::{AllocError, Global};
 
 /// What becomes of a command in one or more ways. This profile's own.
-#[derive(Clone, Copy, Debug, PartialEq, Eq)]
+#[derive(Clone, Copy)]
 pub struct FateSet {
     /// Whether it is left out in one of them.
     pub left_out: bool,

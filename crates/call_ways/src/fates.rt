@@ -14,7 +14,7 @@ use script_table::Script;
 use std::alloc::{AllocError, Global};
 
 /// What becomes of a command of a state. This profile's own.
-#[derive(Clone, Copy, Debug, PartialEq, Eq)]
+#[derive(Clone, Copy)]
 pub enum Fate {
     /// It uses a name that is neither bound nor created before: the request goes without it.
     LeftOut,

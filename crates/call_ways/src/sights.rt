@@ -23,7 +23,7 @@ use script_table::Script;
 use std::alloc::{AllocError, Global};
 
 /// What a configuration may show. States go by their places, from 0. This profile's own.
-#[derive(Clone, Copy, Debug, PartialEq, Eq)]
+#[derive(Clone, Copy)]
 pub enum Sight {
     /// It is of this state.
     Stands(u8),

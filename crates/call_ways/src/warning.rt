@@ -5,7 +5,7 @@ use mg_names::slots::Slot;
 
 /// Something of a script or of its certificate that no call uses, a line that no call hears, a note that no state takes, or a command that no call gets done.
 /// States, their commands, arrows (`arrows`) and entries go by their places, from 0. This profile's own.
-#[derive(Clone, Copy, Debug, PartialEq, Eq)]
+#[derive(Clone, Copy)]
 pub enum Warning {
     /// No entry is of this state.
     StateUnlisted(u8),

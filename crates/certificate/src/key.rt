@@ -10,7 +10,7 @@ use script_table::Script;
 use std::alloc::{AllocError, Global};
 
 /// Which component of a configuration a set of values is for.
-#[derive(Clone, Copy, Debug)]
+#[derive(Clone, Copy)]
 pub enum Key {
     /// How far the state's request has come.
     Link,

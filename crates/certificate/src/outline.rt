@@ -21,7 +21,7 @@ use typed_values::Missing;
 pub const MOST_ENTRIES: usize = 256;
 
 /// What the limits look at of an entry.
-#[derive(Clone, Copy, Debug)]
+#[derive(Clone, Copy)]
 pub(crate) struct Outline {
     pub(crate) state: u8,
     pub(crate) is_empty: bool,

@@ -1,7 +1,7 @@
 //! What the checking of a script and a certificate comes to.
 
 /// The first obligation that a certificate breaks.
-#[derive(Debug, Drop)]
+#[derive(Drop)]
 pub struct Broken {
     /// The obligation's number.
     pub obligation: u8,
@@ -14,7 +14,7 @@ pub struct Broken {
 }
 
 /// What the program says of a script and a certificate.
-#[derive(Debug, Drop)]
+#[derive(Drop)]
 pub enum Answer {
     /// Every obligation holds. The counts are of the script's states, the certificate's entries and
     /// the well-formed points over all entries.

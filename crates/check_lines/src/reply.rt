@@ -9,7 +9,7 @@ use program_rim::status::Status;
 use std::fmt;
 
 /// Why the input has no sections to read.
-#[derive(Clone, Copy, Debug, PartialEq, Eq)]
+#[derive(Clone, Copy)]
 pub enum InputFault {
     /// It has another number of sections.
     Sections,
@@ -18,7 +18,7 @@ pub enum InputFault {
 }
 
 /// All that the program may say.
-#[derive(Debug, Drop)]
+#[derive(Drop)]
 pub enum Reply {
     /// How the program is called.
     Usage,

@@ -2,7 +2,7 @@
 use mg_model::steps::StepName;
 
 /// The obligation of a configuration that is broken first.
-#[derive(Clone, Copy, Debug)]
+#[derive(Clone, Copy)]
 pub(crate) enum Broken {
     /// Lines are joined that the state doesn't mark.
     JoinedMarked,
@@ -17,7 +17,7 @@ pub(crate) enum Broken {
 }
 
 /// A point of an entry that breaks an obligation.
-#[derive(Clone, Copy, Debug)]
+#[derive(Clone, Copy)]
 pub(crate) struct Found {
     /// Its number.
     pub(crate) number: u32,

@@ -16,7 +16,7 @@ use mg_names::obligations::Obligation;
 use script_table::Script;
 
 /// What a certificate comes to.
-#[derive(Clone, Copy, Debug)]
+#[derive(Clone, Copy)]
 pub enum Finding {
     /// No obligation is broken, and so many points are there.
     Kept(u128),

@@ -9,7 +9,7 @@ use std::marker::Model;
 const MOST: usize = 96;
 
 /// There are more than have room.
-#[derive(Debug, Drop)]
+#[derive(Drop)]
 pub(crate) struct TooMany;
 
 /// A hull, by the configurations that it is the hull of.

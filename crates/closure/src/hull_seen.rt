@@ -80,7 +80,7 @@ pub(crate) fn may_pass(hull: &Hull, source: &Termination, sink: &Termination) ->
 }
 
 /// What a termination may be.
-#[derive(Clone, Copy, Debug)]
+#[derive(Clone, Copy)]
 pub(crate) struct Seen {
     /// Of each context, whether it may stand there.
     pub(crate) contexts: [bool; 4],

@@ -55,7 +55,7 @@ fn is_entered(
 }
 
 /// Notes of a line and kind.
-#[derive(Clone, Copy, Debug)]
+#[derive(Clone, Copy)]
 struct Notes {
     line: Slot,
     kind: Kind,

@@ -15,7 +15,7 @@ const STEPS_A_LOOK: u64 = 4;
 const LENT: u64 = 1 << 18;
 
 /// How many looks may be taken, as steps that earn them. This profile's own.
-#[derive(Clone, Copy, Debug)]
+#[derive(Clone, Copy)]
 pub struct Looks {
     left: u64,
     /// With fewer nothing is asked: more were lent the last time that they weren't enough.

@@ -15,7 +15,7 @@ use entry_table::{Cert, Component, product_of};
 use script_table::Script;
 
 /// How points are passed.
-#[derive(Clone, Copy, Debug)]
+#[derive(Clone, Copy)]
 pub(crate) enum Way {
     /// No obligation is broken, and there are so many points.
     Counted(u64),

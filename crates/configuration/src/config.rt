@@ -17,7 +17,7 @@ use std::marker::Model;
 
 /// A configuration of one call, packed into three words. Slots that the script has no name for are absent, free, and not
 /// cut.
-#[derive(Clone, Copy, Debug)]
+#[derive(Clone, Copy)]
 pub struct Config {
     /// State and link, the four lines, and the four contexts.
     lines: u64,

@@ -6,7 +6,7 @@ use mg_model::steps::StepName;
 use std::alloc::{AllocError, Global};
 
 /// A step of a configuration, with the configuration that it leads to.
-#[derive(Clone, Copy, Debug)]
+#[derive(Clone, Copy)]
 pub struct Step {
     /// Its name.
     pub name: StepName,

@@ -4,7 +4,7 @@ use crate::fields::put;
 use std::marker::Model;
 
 /// A word for the lines, one for the ephemerals, and one for the cuts.
-#[derive(Clone, Copy, Debug)]
+#[derive(Clone, Copy)]
 pub(crate) struct ThreeWords {
     lines: u64,
     ephemerals: u64,

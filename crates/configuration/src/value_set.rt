@@ -20,7 +20,7 @@ use mg_names::slots::Slot;
 use std::marker::Model;
 
 /// A set of values for one component of a configuration.
-#[derive(Clone, Copy, Debug)]
+#[derive(Clone, Copy)]
 pub struct ValueSet {
     /// The word that has the component: the lines', the ephemerals' or the cuts'.
     word: u8,

@@ -6,7 +6,7 @@ use std::alloc::AllocError;
 use std::marker::Model;
 
 /// What a command created, and what it took out of its context.
-#[derive(Debug, Drop)]
+#[derive(Drop)]
 pub struct Done {
     pub(crate) context: Option<u32>,
     pub(crate) ephemeral: Option<u32>,

@@ -13,7 +13,7 @@ use std::marker::Model;
 
 /// Collects the symbols that are dialled for one digit map, which each call is handed, until the map is completed
 /// (ITU-T H.248.1 v1 / RFC 3525, 7.1.14). It takes no memory.
-#[derive(Debug, Drop)]
+#[derive(Drop)]
 pub struct Collector {
     remaining: [bool; LIMIT],
     dialled: Dialled,

@@ -6,7 +6,7 @@ use mg_names::symbols::Symbol;
 use std::marker::Model;
 
 /// The symbols that were dialled, in their order: 16 at most.
-#[derive(Debug, Drop)]
+#[derive(Drop)]
 pub struct Dialled {
     symbols: [Symbol; LIMIT],
     count: usize,

@@ -17,7 +17,7 @@ use std::marker::Model;
 pub const LIMIT: usize = 16;
 
 /// A digit map (ITU-T H.248.1 v1 / RFC 3525, 7.1.14): its alternatives, of which each is a list of positions.
-#[derive(Debug, Drop)]
+#[derive(Drop)]
 pub struct DigitMap {
     alternatives: Vec<Vec<Position>>,
 }

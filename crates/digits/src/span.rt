@@ -8,7 +8,7 @@ use mg_model::positions::Position;
 pub(crate) const LAST_DIGIT: u8 = 9;
 
 /// The symbols from `low` to `high`, both included. Digits are their own numbers, E is 10 and F is 11.
-#[derive(Clone, Copy, Debug, PartialEq, Eq)]
+#[derive(Clone, Copy)]
 pub(crate) struct Span {
     pub(crate) low: u8,
     pub(crate) high: u8,

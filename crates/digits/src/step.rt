@@ -6,7 +6,7 @@ use crate::dialled::Dialled;
 use mg_model::line_events::Method;
 
 /// What a symbol or a pause makes of a collector.
-#[derive(Debug, Drop)]
+#[derive(Drop)]
 pub enum Step {
     /// The symbol is kept, and collecting goes on.
     More,

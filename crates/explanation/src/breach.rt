@@ -10,7 +10,7 @@ use mg_names::slots::Slot;
 use std::alloc::{AllocError, Global};
 
 /// One thing of a configuration that breaks an obligation. This profile's own.
-#[derive(Clone, Copy, Debug, PartialEq, Eq)]
+#[derive(Clone, Copy)]
 pub enum Breach {
     /// These two lines are joined, and the configuration's state doesn't mark them.
     Joined(Pair),

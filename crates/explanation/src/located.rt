@@ -9,7 +9,7 @@ use entry_table::Cert;
 use mg_model::faults::Fault;
 
 /// A point of a certificate. This profile's own.
-#[derive(Clone, Copy, Debug)]
+#[derive(Clone, Copy)]
 pub struct Located {
     /// The place of its entry in the certificate, from 0.
     pub place: usize,

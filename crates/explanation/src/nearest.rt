@@ -8,7 +8,7 @@ use configuration::config::Config;
 use entry_table::{Cert, Entry};
 
 /// An entry of a configuration's state, and how many of its components don't have the configuration's value. This profile's own.
-#[derive(Clone, Copy, Debug, PartialEq, Eq)]
+#[derive(Clone, Copy)]
 pub struct Nearest {
     /// Its place in the certificate, from 0.
     pub place: usize,

@@ -11,7 +11,7 @@ use mg_names::slots::Slot;
 use std::alloc::{AllocError, Global};
 
 /// A crossing of media from one ephemeral to another; each is the other's Remote. This profile's own.
-#[derive(Clone, Copy, Debug, PartialEq, Eq)]
+#[derive(Clone, Copy)]
 pub struct Crossing {
     /// The ephemeral that media leaves its context at.
     pub from: Slot,

@@ -2,7 +2,7 @@
 use requests::{Reply, SentNote};
 
 /// What a gateway answers to a request that reaches it (H.248.1 Annex D.1.1).
-#[derive(Debug, Drop)]
+#[derive(Drop)]
 pub enum Answer {
     /// The request was executed: its reply, and the notes that it raised.
     Executed {

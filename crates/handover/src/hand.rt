@@ -3,7 +3,7 @@ use crossbeam_queue::protocol::{Join, Lesson, Outcome, Protocol, Split};
 use std::collections::LinkedList;
 
 /// A thing with the number by which it is counted.
-#[derive(Debug, Drop)]
+#[derive(Drop)]
 pub struct NumberedItem<T> {
     /// Its number. No two things of one queue have the same.
     pub number: u32,

@@ -11,7 +11,7 @@ use std::alloc::{AllocError, Global};
 use std::marker::Model;
 
 /// The list of an Events descriptor (ITU-T H.248.1 v1 / RFC 3525, 7.1.9).
-#[derive(Debug, Drop)]
+#[derive(Drop)]
 pub struct EventList {
     items: Vec<ListItem>,
 }

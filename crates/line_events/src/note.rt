@@ -10,7 +10,7 @@ use std::marker::Model;
 
 /// What is reported of a line: the event, the RequestID of the Events descriptor, and for a completed digit map how and by
 /// which symbols.
-#[derive(Debug, Drop)]
+#[derive(Drop)]
 pub struct Note {
     kind: Kind,
     request: u32,

@@ -18,7 +18,7 @@ use std::marker::Model;
 
 /// The row of a line: its hook state, its Events descriptor with the RequestID, what is collected for the digit map, and
 /// the signals that play.
-#[derive(Debug, Drop)]
+#[derive(Drop)]
 pub struct LineRow {
     hook: Hook,
     list: EventList,

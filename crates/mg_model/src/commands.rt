@@ -4,7 +4,7 @@ use mg_names::slots::Slot;
 use mg_names::topologies::Topology;
 
 /// A termination that a script declares.
-#[derive(Clone, Copy, Debug, PartialEq, Eq)]
+#[derive(Clone, Copy, PartialEq, Eq)]
 pub enum Termination {
     /// A line, a physical termination that always exists.
     Line(Slot),
@@ -13,7 +13,7 @@ pub enum Termination {
 }
 
 /// Where Modify looks for its termination.
-#[derive(Clone, Copy, Debug, PartialEq, Eq)]
+#[derive(Clone, Copy, PartialEq, Eq)]
 pub enum Place {
     /// The null context, written `-`.
     NullContext,
@@ -22,7 +22,7 @@ pub enum Place {
 }
 
 /// An events list: one of the two that are predefined, or one of the script's own by its place from 0.
-#[derive(Clone, Copy, Debug, PartialEq, Eq)]
+#[derive(Clone, Copy, PartialEq, Eq)]
 pub enum EventsName {
     /// The list `none`, which is empty.
     Empty,
@@ -33,7 +33,7 @@ pub enum EventsName {
 }
 
 /// A signals list: the predefined one, or one of the script's own by its place from 0.
-#[derive(Clone, Copy, Debug, PartialEq, Eq)]
+#[derive(Clone, Copy, PartialEq, Eq)]
 pub enum SignalsName {
     /// The list `none`, which is empty.
     Silent,
@@ -42,7 +42,7 @@ pub enum SignalsName {
 }
 
 /// What `remote=` sets.
-#[derive(Clone, Copy, Debug, PartialEq, Eq)]
+#[derive(Clone, Copy, PartialEq, Eq)]
 pub enum RemoteOption {
     /// No Remote, written `none`.
     NoneGiven,
@@ -51,7 +51,7 @@ pub enum RemoteOption {
 }
 
 /// What a command sets on a line. What it leaves out stays as it was (H.248.1 section 7.1.1).
-#[derive(Clone, Copy, Debug, PartialEq, Eq)]
+#[derive(Clone, Copy, PartialEq, Eq)]
 pub struct LineOptions {
     /// The mode, `mode=`.
     pub mode: Option<Mode>,
@@ -62,7 +62,7 @@ pub struct LineOptions {
 }
 
 /// What a command sets on an ephemeral termination. What it leaves out stays as it was.
-#[derive(Clone, Copy, Debug, PartialEq, Eq)]
+#[derive(Clone, Copy, PartialEq, Eq)]
 pub struct EphemeralOptions {
     /// The mode, `mode=`.
     pub mode: Option<Mode>,
@@ -71,7 +71,7 @@ pub struct EphemeralOptions {
 }
 
 /// A command of a state's request (H.248.1 section 7.2).
-#[derive(Clone, Copy, Debug, PartialEq, Eq)]
+#[derive(Clone, Copy, PartialEq, Eq)]
 pub enum Command {
     /// `add`: takes a line from the null context into a context, which it creates where `create` is set.
     AddLine {

@@ -1,7 +1,7 @@
 use mg_names::slots::Slot;
 
 /// Where a termination stands, in a configuration.
-#[derive(Clone, Copy, Debug, PartialEq, Eq)]
+#[derive(Clone, Copy)]
 pub enum Spot {
     /// Nowhere: an ephemeral that does not exist, or a slot that the script has no name for.
     Absent,
@@ -12,7 +12,7 @@ pub enum Spot {
 }
 
 /// The Remote of an ephemeral termination, in a configuration.
-#[derive(Clone, Copy, Debug, PartialEq, Eq)]
+#[derive(Clone, Copy)]
 pub enum Remote {
     /// None is set.
     Unset,

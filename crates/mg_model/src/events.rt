@@ -4,7 +4,7 @@ use crate::line_events::LineEvent;
 use mg_names::identifiers::{Assoc, CallNo, LineNo};
 
 /// What happens to a call (this profile's own).
-#[derive(Clone, Copy, Debug, PartialEq, Eq)]
+#[derive(Clone, Copy, PartialEq, Eq)]
 pub enum CallEvent {
     /// An event of a line that the call holds.
     OnLine {
@@ -47,7 +47,7 @@ pub enum CallEvent {
 }
 
 /// What can happen: to a call, or a restart of the gateway (H.248.1 section 11.2).
-#[derive(Clone, Copy, Debug, PartialEq, Eq)]
+#[derive(Clone, Copy, PartialEq, Eq)]
 pub enum Event {
     /// It happens to a call.
     OfCall {

@@ -5,7 +5,7 @@ ghost use Rattle.mg_model.specs.Failures.{code_of};
 use mg_names::codes::Code;
 
 /// Why a gateway may refuse a command that is legal (H.248.1, its Annex on error codes).
-#[derive(Clone, Copy, Debug, PartialEq, Eq)]
+#[derive(Clone, Copy, PartialEq, Eq)]
 pub enum Refusal {
     /// 500: internal software failure in the media gateway.
     InternalFailure,
@@ -26,7 +26,7 @@ impl Refusal {
 }
 
 /// A refusal that is chosen for one command of a request. A place past the last command refuses nothing (this profile's own).
-#[derive(Clone, Copy, Debug, PartialEq, Eq)]
+#[derive(Clone, Copy, PartialEq, Eq)]
 pub struct ChosenRefusal {
     /// The place of the command in its request, from 0.
     pub place: u32,
@@ -35,7 +35,7 @@ pub struct ChosenRefusal {
 }
 
 /// The command at which a request stopped.
-#[derive(Clone, Copy, Debug, PartialEq, Eq)]
+#[derive(Clone, Copy)]
 pub struct Failure {
     /// The place of the command in its request, from 0.
     pub place: usize,

@@ -2,7 +2,7 @@ use crate::steps::StepName;
 use mg_names::obligations::Obligation;
 
 /// The first broken obligation of a certificate, as the answer `no` names it.
-#[derive(Clone, Copy, Debug, PartialEq, Eq)]
+#[derive(Clone, Copy)]
 pub struct Fault {
     /// The obligation.
     pub obligation: Obligation,

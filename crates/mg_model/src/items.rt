@@ -3,7 +3,7 @@ use mg_names::modes::Mode;
 use mg_names::topologies::Topology;
 
 /// A Remote that a command gives to an ephemeral. This profile's own.
-#[derive(Clone, Copy, Debug, PartialEq, Eq)]
+#[derive(Clone, Copy)]
 pub enum RemoteSetting {
     /// No Remote.
     Nothing,
@@ -12,7 +12,7 @@ pub enum RemoteSetting {
 }
 
 /// What a command sets on its termination, the Events and Signals descriptors apart; what it leaves out stays.
-#[derive(Clone, Copy, Debug, PartialEq, Eq)]
+#[derive(Clone, Copy)]
 pub struct Settings {
     /// The mode (H.248.1 section 7.1.7 on LocalControl).
     pub mode: Option<Mode>,
@@ -21,7 +21,7 @@ pub struct Settings {
 }
 
 /// What an Add brings into its context.
-#[derive(Clone, Copy, Debug, PartialEq, Eq)]
+#[derive(Clone, Copy)]
 pub enum Added {
     /// A line, from the null context.
     Line(LineNo),
@@ -30,7 +30,7 @@ pub enum Added {
 }
 
 /// A command on contexts and terminations, by identifiers (H.248.1 section 7.2).
-#[derive(Clone, Copy, Debug, PartialEq, Eq)]
+#[derive(Clone, Copy)]
 pub enum Item {
     /// Add.
     Add {

@@ -2,7 +2,7 @@ use mg_names::signals::Signal;
 use mg_names::symbols::Symbol;
 
 /// The hook state of a line (H.248.1 Annex E.9).
-#[derive(Clone, Copy, Debug, PartialEq, Eq)]
+#[derive(Clone, Copy, PartialEq, Eq)]
 pub enum Hook {
     /// On hook.
     On,
@@ -11,7 +11,7 @@ pub enum Hook {
 }
 
 /// How a digit map was completed: the parameter `Meth` of `dd/ce` (H.248.1 Annex E.6).
-#[derive(Clone, Copy, Debug, PartialEq, Eq)]
+#[derive(Clone, Copy)]
 pub enum Method {
     /// UM: no other alternative is left, and this one is matched.
     Unambiguous,
@@ -22,7 +22,7 @@ pub enum Method {
 }
 
 /// The signals that play on a line (H.248.1 Annex E.7 and E.9).
-#[derive(Clone, Copy, Debug, PartialEq, Eq)]
+#[derive(Clone, Copy, PartialEq, Eq)]
 pub struct SignalSet {
     /// `al/ri`.
     pub ring: bool,
@@ -48,7 +48,7 @@ impl SignalSet {
 }
 
 /// What happens on a line.
-#[derive(Clone, Copy, Debug, PartialEq, Eq)]
+#[derive(Clone, Copy, PartialEq, Eq)]
 pub enum LineEvent {
     /// The hook goes to a state (H.248.1 Annex E.9).
     Hook(Hook),

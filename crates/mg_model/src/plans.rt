@@ -5,7 +5,7 @@ use mg_names::symbols::Symbol;
 
 /// A step of a call in a plan (this profile's own): what a user does on one of its lines, which of its messages is delivered, that a call
 /// begins on its lines, or that the gateway restarts. Lines are places in the script, from 0.
-#[derive(Clone, Copy, Debug, PartialEq, Eq)]
+#[derive(Clone, Copy)]
 pub enum PlanStep {
     /// The line goes off hook.
     GoesOff(Slot),

@@ -4,7 +4,7 @@ use mg_names::modes::Mode;
 
 /// A context: by its number, CHOOSE and NULL among them, or the one that an earlier command of the request created. The place of
 /// that command, from 0, is this profile's own.
-#[derive(Clone, Copy, Debug, PartialEq, Eq)]
+#[derive(Clone, Copy)]
 pub enum ContextRef {
     /// The context with this number.
     Number(ContextId),
@@ -13,7 +13,7 @@ pub enum ContextRef {
 }
 
 /// An ephemeral: by its number, or the one that an earlier command of the request created.
-#[derive(Clone, Copy, Debug, PartialEq, Eq)]
+#[derive(Clone, Copy)]
 pub enum EphemeralRef {
     /// The ephemeral with this number.
     Number(u32),
@@ -22,7 +22,7 @@ pub enum EphemeralRef {
 }
 
 /// A termination.
-#[derive(Clone, Copy, Debug, PartialEq, Eq)]
+#[derive(Clone, Copy)]
 pub enum TerminationRef {
     /// A line.
     Line(LineNo),
@@ -31,7 +31,7 @@ pub enum TerminationRef {
 }
 
 /// The Remote that a command gives to an ephemeral. This profile's own.
-#[derive(Clone, Copy, Debug, PartialEq, Eq)]
+#[derive(Clone, Copy)]
 pub enum RemoteRef {
     /// No Remote.
     Nothing,
@@ -40,7 +40,7 @@ pub enum RemoteRef {
 }
 
 /// What a command sets on the connection model; what it leaves out stays.
-#[derive(Clone, Copy, Debug, Default, PartialEq, Eq)]
+#[derive(Clone, Copy, Default)]
 pub struct SettingsRef {
     /// The mode (H.248.1 section 7.1.7 on LocalControl).
     pub mode: Option<Mode>,

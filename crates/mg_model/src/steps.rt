@@ -2,7 +2,7 @@ use mg_names::kinds::Kind;
 use mg_names::slots::Slot;
 
 /// The name of a step of a configuration.
-#[derive(Clone, Copy, Debug, PartialEq, Eq)]
+#[derive(Clone, Copy)]
 pub enum StepName {
     /// The gateway refuses the command at this place of the built request, after it did those before it.
     Refuse(usize),

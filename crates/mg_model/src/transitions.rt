@@ -3,7 +3,7 @@ use mg_names::slots::Slot;
 use mg_names::strictness::Strict;
 
 /// An item of an events list; `M` is how a digit map is named: by its place in a script, or by the map itself.
-#[derive(Clone, Copy, Debug, Drop, PartialEq, Eq)]
+#[derive(Clone, Copy, Drop)]
 pub enum EventItem<M> {
     /// `al/on`.
     OnHook(Strict),
@@ -16,7 +16,7 @@ pub enum EventItem<M> {
 }
 
 /// A transition of a state: where a note of this line and kind leads.
-#[derive(Clone, Copy, Debug, PartialEq, Eq)]
+#[derive(Clone, Copy)]
 pub struct Transition {
     /// The line.
     pub line: Slot,
@@ -27,7 +27,7 @@ pub struct Transition {
 }
 
 /// Two lines that a state marks as talking; the order has no meaning.
-#[derive(Clone, Copy, Debug, PartialEq, Eq)]
+#[derive(Clone, Copy)]
 pub struct Pair {
     /// One line.
     pub first: Slot,

@@ -3,7 +3,7 @@ ghost use Rattle.mg_names.specs.Codes.{code_name, code_number, code_numbered};
 
 /// The error code of a failed command (H.248.1 section 7.1.19 and its Annex on error codes, the ones that this gateway
 /// answers).
-#[derive(Clone, Copy, Debug, PartialEq, Eq, Hash)]
+#[derive(Clone, Copy, Debug, PartialEq, Eq)]
 pub enum Code {
     /// 411: the transaction refers to an unknown ContextID.
     UnknownContext,

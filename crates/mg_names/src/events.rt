@@ -2,7 +2,7 @@ ghost use Rattle.std.specs.Prelude.{◌≡◌, Some, IfSome};
 ghost use Rattle.mg_names.specs.Words.{event_name_text, event_name_named};
 
 /// An event that an Events descriptor may name (H.248.1 Annex E.9 package al, Annex E.6 package dd).
-#[derive(Clone, Copy, Debug, PartialEq, Eq, Hash)]
+#[derive(Clone, Copy)]
 pub enum EventName {
     /// The telephone is put on hook.
     OnHook,

@@ -1,13 +1,13 @@
 /// The number of a line of the gateway, a physical termination that always exists (H.248.1 section 6.2).
-#[derive(Clone, Copy, Debug, PartialEq, Eq, PartialOrd, Ord, Hash)]
+#[derive(Clone, Copy, PartialEq, Eq)]
 pub struct LineNo(pub u32);
 
 /// The number of a call. This profile's own.
-#[derive(Clone, Copy, Debug, PartialEq, Eq, PartialOrd, Ord, Hash)]
+#[derive(Clone, Copy, PartialEq, Eq)]
 pub struct CallNo(pub u32);
 
 /// A ContextID (H.248.1 section 8.1.2 and Annex A).
-#[derive(Clone, Copy, Debug, PartialEq, Eq, PartialOrd, Ord, Hash)]
+#[derive(Clone, Copy, PartialEq, Eq)]
 pub struct ContextId(pub u32);
 
 impl ContextId {
@@ -20,7 +20,7 @@ impl ContextId {
 }
 
 /// A TerminationID (H.248.1 section 6.2.2): a physical line, or an ephemeral termination by its number.
-#[derive(Clone, Copy, Debug, PartialEq, Eq, PartialOrd, Ord, Hash)]
+#[derive(Clone, Copy)]
 pub enum TermId {
     /// A physical termination.
     Line(LineNo),
@@ -30,7 +30,7 @@ pub enum TermId {
 
 /// The number of an association between the gateway and its controller, from 1; each restart opens the next
 /// (H.248.1 section 11.2 on ServiceChange; the numbers are this profile's own).
-#[derive(Clone, Copy, Debug, PartialEq, Eq, PartialOrd, Ord, Hash)]
+#[derive(Clone, Copy, PartialEq, Eq)]
 pub struct Assoc(pub u64);
 
 impl Assoc {

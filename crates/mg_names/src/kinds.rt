@@ -2,7 +2,7 @@ ghost use Rattle.std.specs.Prelude.{◌≡◌, Some, IfSome};
 ghost use Rattle.mg_names.specs.Words.{kind_text, kind_named};
 
 /// What a note reports: a hook event, a flash, or how a digit map completed. The words are this profile's own.
-#[derive(Clone, Copy, Debug, PartialEq, Eq, Hash)]
+#[derive(Clone, Copy, PartialEq, Eq)]
 pub enum Kind {
     /// The line went on hook.
     On,

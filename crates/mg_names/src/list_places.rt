@@ -3,7 +3,7 @@ ghost use Rattle.std.specs.Prelude.{◌≡◌, ℕ, ◌<◌, ◌≤◌, IsNone, 
 use std::marker::Model;
 
 /// The place of an events list among a script's own, counted from 0, of which it has at most sixteen. This profile's own.
-#[derive(Clone, Copy, Debug, PartialEq, Eq, Hash)]
+#[derive(Clone, Copy, PartialEq, Eq)]
 pub struct ListPlace {
     place: u8,
 }

@@ -2,7 +2,7 @@ ghost use Rattle.std.specs.Prelude.{◌≡◌, Some, IfSome};
 ghost use Rattle.mg_names.specs.Words.{mode_text, mode_named};
 
 /// The mode of a termination, seen from the exterior of its context (H.248.1 section 7.1.7, the mode property of LocalControl).
-#[derive(Clone, Copy, Debug, PartialEq, Eq, Hash)]
+#[derive(Clone, Copy, PartialEq, Eq)]
 pub enum Mode {
     /// Passes no media either way; the default of a new termination.
     Inactive,

@@ -2,7 +2,7 @@ ghost use Rattle.std.specs.Prelude.{◌≡◌};
 ghost use Rattle.mg_names.specs.Obligations.{obligation_name, obligation_number};
 
 /// An obligation of a certificate. Where none is broken, every run of the script is good. This profile's own.
-#[derive(Clone, Copy, Debug, PartialEq, Eq, Hash)]
+#[derive(Clone, Copy)]
 pub enum Obligation {
     /// The configuration that a call opens in is in an entry.
     OpeningCovered,

@@ -2,7 +2,7 @@ ghost use Rattle.std.specs.Prelude.{◌≡◌, Some, IfSome};
 ghost use Rattle.mg_names.specs.Words.{link_text, link_named};
 
 /// How far the request of a call's state has come, as the checker sees it. This profile's own.
-#[derive(Clone, Copy, Debug, PartialEq, Eq, Hash)]
+#[derive(Clone, Copy, PartialEq, Eq)]
 pub enum LinkPhase {
     /// The request is sent, and the gateway has not executed it.
     Sent,

@@ -2,7 +2,7 @@ ghost use Rattle.std.specs.Prelude.{◌≡◌, Some, IfSome};
 ghost use Rattle.mg_names.specs.Words.{signal_text, signal_named};
 
 /// A signal that a line may play (H.248.1 Annex E.7 package al, Annex E.6 package cg).
-#[derive(Clone, Copy, Debug, PartialEq, Eq, Hash)]
+#[derive(Clone, Copy, PartialEq, Eq)]
 pub enum Signal {
     /// The ringing of the telephone.
     Ring,

@@ -4,7 +4,7 @@ use std::marker::Model;
 
 /// The place of a name in its table of a script, counted from 0: of a line, a context or an ephemeral termination, of
 /// which a script has at most four each. This profile's own.
-#[derive(Clone, Copy, Debug, PartialEq, Eq, Hash)]
+#[derive(Clone, Copy, PartialEq, Eq)]
 pub struct Slot {
     place: u8,
 }

@@ -2,7 +2,7 @@ ghost use Rattle.std.specs.Prelude.{◌≡◌, Some, IfSome};
 ghost use Rattle.mg_names.specs.Words.{strict_text, strict_named};
 
 /// How the hook events of package al are recognised (H.248.1 Annex E.9, the parameter strict).
-#[derive(Clone, Copy, Debug, PartialEq, Eq, Hash)]
+#[derive(Clone, Copy)]
 pub enum Strict {
     /// A transition of the hook alone.
     Exact,

@@ -2,7 +2,7 @@ ghost use Rattle.std.specs.Prelude.{◌≡◌, Some, IfSome};
 ghost use Rattle.mg_names.specs.Words.{symbol_text, symbol_named};
 
 /// A dialled symbol (H.248.1 section 7.1.14 and Annex E.6: `*` is E and `#` is F).
-#[derive(Clone, Copy, Debug, PartialEq, Eq, Hash)]
+#[derive(Clone, Copy, PartialEq, Eq)]
 pub enum Symbol {
     /// The digit 0.
     Zero,

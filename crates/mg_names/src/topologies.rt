@@ -2,7 +2,7 @@ ghost use Rattle.std.specs.Prelude.{◌≡◌, Some, IfSome};
 ghost use Rattle.mg_names.specs.Words.{topology_text, topology_named};
 
 /// What a Topology descriptor says of a first and a second termination (H.248.1 section 7.1.18).
-#[derive(Clone, Copy, Debug, PartialEq, Eq, Hash)]
+#[derive(Clone, Copy, PartialEq, Eq)]
 pub enum Topology {
     /// Neither receives from the other.
     Isolate,

@@ -7,7 +7,7 @@ use crate::call_number::call_number;
 use check_facts::form::Form;
 
 /// What the words ask for.
-#[derive(Clone, Copy, Debug, PartialEq, Eq)]
+#[derive(Clone, Copy)]
 pub(crate) enum Asked {
     /// What is said of an input, in a form, and of a plan of the call with a number alone where there is one.
     Saying(Form, Option<u32>),
@@ -20,7 +20,7 @@ pub(crate) enum Asked {
 }
 
 /// What the words ask for, and how many of those before it name files.
-#[derive(Clone, Copy, Debug, PartialEq, Eq)]
+#[derive(Clone, Copy)]
 pub(crate) struct Request {
     pub(crate) asked: Asked,
     /// None where the input is on standard input; else a script and a certificate, or these and a plan.

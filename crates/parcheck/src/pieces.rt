@@ -6,7 +6,7 @@ use entry_table::Cert;
 use std::alloc::{AllocError, Global};
 
 /// A run of entries: those from a place up to another.
-#[derive(Clone, Copy, Debug)]
+#[derive(Clone, Copy)]
 pub struct Piece {
     /// The place of its first entry.
     pub first: usize,

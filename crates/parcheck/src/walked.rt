@@ -10,7 +10,7 @@ use entry_table::Cert;
 use script_table::Script;
 
 /// A run of entries that a job has walked over.
-#[derive(Clone, Copy, Debug)]
+#[derive(Clone, Copy)]
 pub struct Walked {
     /// The place of its first entry.
     pub first: usize,

@@ -11,7 +11,7 @@ use mg_model::plans::PlanStep;
 use std::alloc::Global;
 
 /// A call that is retired, as far as the report tells of it.
-#[derive(Clone, Copy, Debug)]
+#[derive(Clone, Copy)]
 pub struct RetiredCall {
     /// Its state.
     pub state: u8,

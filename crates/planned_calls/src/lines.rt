@@ -10,7 +10,7 @@ use shards::Standing;
 use std::alloc::{AllocError, Global};
 
 /// Where a call is at the end of a run. This profile's own.
-#[derive(Clone, Copy, Debug, PartialEq, Eq)]
+#[derive(Clone, Copy, PartialEq, Eq)]
 pub enum CallPhase {
     /// Its association isn't its gateway's.
     Lost,
@@ -25,7 +25,7 @@ pub enum CallPhase {
 }
 
 /// What is told of a call at the end of a run. This profile's own.
-#[derive(Clone, Copy, Debug, PartialEq, Eq)]
+#[derive(Clone, Copy, PartialEq, Eq)]
 pub struct Line {
     /// The number of the call of the plan that it is, or began within.
     pub call: u32,

@@ -22,7 +22,7 @@ use std::alloc::Global;
 pub const PLAN_CALLS: u32 = 10_000;
 
 /// What a step of a call of the plan came to. This profile's own.
-#[derive(Clone, Copy, Debug)]
+#[derive(Clone, Copy)]
 pub struct TakenStep {
     /// The number of the call of the plan.
     pub first: u32,

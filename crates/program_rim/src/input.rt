@@ -12,7 +12,7 @@ pub const INPUT_LIMIT: usize = 16_777_216;
 const CHUNK: usize = 8192;
 
 /// How the reading of an input ended.
-#[derive(Debug, Drop)]
+#[derive(Drop)]
 pub enum Input {
     /// The source came to its end, with these bytes.
     Whole(Vec<u8>),

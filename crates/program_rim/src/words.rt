@@ -10,7 +10,7 @@ use clap::{Arg, ArgMatches, Command};
 use std::alloc::{AllocError, Global};
 
 /// What the command line asks for.
-#[derive(Clone, Copy, Debug, PartialEq, Eq)]
+#[derive(Clone, Copy)]
 pub enum Request {
     /// Check a certificate, in so many pieces: 1 to 64.
     Check { pieces: u8 },
@@ -19,7 +19,7 @@ pub enum Request {
 }
 
 /// Why no request was read.
-#[derive(Clone, Copy, Debug, PartialEq, Eq)]
+#[derive(Clone, Copy)]
 pub enum WordsFault {
     /// The words ask for nothing that the program does, or for help.
     Refused,

@@ -6,7 +6,7 @@ use mg_names::identifiers::LineNo;
 use mg_names::topologies::Topology;
 
 /// The descriptors that only a line takes; what is left out stays.
-#[derive(Debug, Default, Drop)]
+#[derive(Default, Drop)]
 pub struct LineDescriptors {
     /// The Events descriptor (H.248.1 section 7.1.9).
     pub events: Option<EventList>,
@@ -15,7 +15,7 @@ pub struct LineDescriptors {
 }
 
 /// What an Add brings into its context.
-#[derive(Debug, Drop)]
+#[derive(Drop)]
 pub enum Newcomer {
     /// A line, from the null context.
     Line {
@@ -29,7 +29,7 @@ pub enum Newcomer {
 }
 
 /// The termination of a Modify or a Move.
-#[derive(Debug, Drop)]
+#[derive(Drop)]
 pub enum Target {
     /// A line.
     Line {
@@ -44,7 +44,7 @@ pub enum Target {
 
 /// A command of a request (H.248.1 section 7.2): an `Item` of the model with references in the place of identifiers, and with the
 /// descriptors of its line.
-#[derive(Debug, Drop)]
+#[derive(Drop)]
 pub enum RequestCommand {
     /// Add.
     Add {

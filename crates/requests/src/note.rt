@@ -9,7 +9,7 @@ use std::marker::Model;
 
 /// A note to a call's agent, with its number among the notes of the call (H.248.1 section 7.2.7 on Notify; the numbers are this
 /// profile's own).
-#[derive(Debug, Drop)]
+#[derive(Drop)]
 pub struct SentNote {
     id: MessageId,
     raised: LineNote,

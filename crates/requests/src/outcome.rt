@@ -5,7 +5,7 @@ use mg_model::failures::Failure;
 use mg_names::identifiers::LineNo;
 
 /// A note that is raised on a line.
-#[derive(Debug, Drop)]
+#[derive(Drop)]
 pub struct LineNote {
     /// The line.
     pub line: LineNo,
@@ -14,7 +14,7 @@ pub struct LineNote {
 }
 
 /// What the commands of a request came to.
-#[derive(Debug, Drop)]
+#[derive(Drop)]
 pub struct Outcome {
     /// The results of the commands that were done, in their order.
     pub results: Vec<Done>,

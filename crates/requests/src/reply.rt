@@ -9,7 +9,7 @@ use std::alloc::AllocError;
 use std::marker::Model;
 
 /// The reply to a request: the results of the commands that were done, and the failure if there was one (H.248.1 section 8.2.2).
-#[derive(Debug, Drop)]
+#[derive(Drop)]
 pub struct Reply {
     id: MessageId,
     results: Vec<Done>,

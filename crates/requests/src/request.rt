@@ -8,7 +8,7 @@ use mg_names::identifiers::{Assoc, CallNo};
 use std::marker::Model;
 
 /// A request of a call's agent: a transaction with one action after the other (H.248.1 section 8.2.1).
-#[derive(Debug, Drop)]
+#[derive(Drop)]
 pub struct Request {
     id: MessageId,
     commands: Vec<RequestCommand>,

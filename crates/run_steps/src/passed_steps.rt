@@ -7,7 +7,7 @@ use std::alloc::{AllocError, Global};
 use std::sync::{Mutex, Wait};
 
 /// A step that passed: of which call of the plan it is, and its place among the call's steps over all epochs.
-#[derive(Clone, Copy, Debug)]
+#[derive(Clone, Copy)]
 struct Passed {
     call: u32,
     step: usize,
@@ -52,7 +52,7 @@ fn unmarked(alloc: Global, plan: &Plan) -> Result<Vec<Vec<Assoc>>, AllocError> {
 }
 
 /// How far a run is: its epoch, and the association of its gateways.
-#[derive(Clone, Copy, Debug)]
+#[derive(Clone, Copy)]
 struct Clock {
     epoch: usize,
     association: u64,

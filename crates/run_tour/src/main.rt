@@ -33,7 +33,7 @@ const PLAN_CALLS: u32 = 10_000;
 const DIVIDER: &str = "\n%%\n";
 
 /// How the tour ended.
-#[derive(Clone, Copy, Debug, PartialEq, Eq)]
+#[derive(Clone, Copy)]
 enum End {
     /// All is told.
     Well,
@@ -44,7 +44,7 @@ enum End {
 }
 
 /// What the words ask for.
-#[derive(Clone, Copy, Debug, PartialEq, Eq)]
+#[derive(Clone, Copy)]
 enum Kind {
     Lines,
     Meet,
@@ -53,7 +53,7 @@ enum Kind {
 }
 
 /// What the words ask for, and on how many workers.
-#[derive(Clone, Copy, Debug)]
+#[derive(Clone, Copy)]
 struct Asked {
     workers: usize,
     kind: Kind,

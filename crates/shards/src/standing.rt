@@ -6,7 +6,7 @@ use crate::shard::Shard;
 use mg_names::identifiers::{Assoc, CallNo};
 
 /// Where a call that is open in a shard is. This profile's own.
-#[derive(Clone, Copy, Debug)]
+#[derive(Clone, Copy)]
 pub struct Standing {
     /// The association of its agent, from 1.
     pub association: Assoc,

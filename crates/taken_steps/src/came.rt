@@ -3,7 +3,7 @@ use crate::idle::Idle;
 use mg_model::events::Event;
 
 /// What a step of a plan came to. This profile's own.
-#[derive(Clone, Copy, Debug, PartialEq, Eq)]
+#[derive(Clone, Copy)]
 pub enum Came {
     /// The event that it meant happened.
     Happened(Event),

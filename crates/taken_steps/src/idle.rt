@@ -2,7 +2,7 @@
 use mg_names::identifiers::{Assoc, LineNo};
 
 /// Messages that have numbers of their own. This profile's own.
-#[derive(Clone, Copy, Debug, PartialEq, Eq)]
+#[derive(Clone, Copy)]
 pub enum Numbers {
     /// The notes of a gateway to a call.
     Notes,
@@ -12,7 +12,7 @@ pub enum Numbers {
 
 /// Why a step of a plan is idle: it means no event, or one that can't happen there. Of several reasons it is the first of the order that
 /// `taken_steps/specs/Reasons` has. This profile's own.
-#[derive(Clone, Copy, Debug, PartialEq, Eq)]
+#[derive(Clone, Copy)]
 pub enum Idle {
     /// No such message was sent.
     NothingSent,

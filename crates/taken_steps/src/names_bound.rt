@@ -7,7 +7,7 @@ use script_table::Script;
 use std::alloc::{AllocError, Global};
 
 /// The numbers to which the names of contexts and ephemerals are bound. This profile's own.
-#[derive(Clone, Copy, Debug)]
+#[derive(Clone, Copy)]
 pub struct NamesBound {
     contexts: [Option<u32>; 4],
     ephemerals: [Option<u32>; 4],

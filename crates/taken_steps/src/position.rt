@@ -8,7 +8,7 @@ use agent::Next;
 use planned_calls::{CallPhase, Shard};
 
 /// Where a call is. This profile's own.
-#[derive(Clone, Copy, Debug, PartialEq, Eq)]
+#[derive(Clone, Copy, PartialEq, Eq)]
 pub struct Position {
     /// The place of its state in the script, from 0.
     pub state: u8,

@@ -21,7 +21,7 @@ pub struct Sent {
 }
 
 /// What became of a request that reached the gateway. This profile's own.
-#[derive(Clone, Copy, Debug, PartialEq, Eq)]
+#[derive(Clone, Copy)]
 pub enum Fate {
     /// It was executed, and replied to.
     Executed,
@@ -49,7 +49,7 @@ pub struct Executed {
 }
 
 /// A reply that reached the call. This profile's own.
-#[derive(Clone, Copy, Debug)]
+#[derive(Clone, Copy)]
 pub struct TakenReply {
     /// The number of its request.
     pub number: u32,
@@ -106,7 +106,7 @@ impl NoteSent {
 }
 
 /// A line of a call that hears another one: a path of media leads from the one to the other. This profile's own.
-#[derive(Clone, Copy, Debug)]
+#[derive(Clone, Copy)]
 pub struct Hearing {
     /// The line that is heard.
     pub from: LineNo,

@@ -2,7 +2,7 @@
 use std::alloc::{AllocError, Global};
 
 /// What became of a call.
-#[derive(Clone, Copy, PartialEq, Eq)]
+#[derive(Clone, Copy)]
 pub enum Answer {
     /// Its answer is written.
     Told,

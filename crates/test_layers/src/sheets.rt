@@ -19,7 +19,7 @@ pub trait Layer {
 }
 
 /// How the rows of a file ended.
-#[derive(Clone, Copy, PartialEq, Eq)]
+#[derive(Clone, Copy)]
 pub enum End {
     /// All are answered.
     Well,

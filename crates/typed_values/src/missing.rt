@@ -2,7 +2,7 @@
 use std::alloc::{AllocError, AllocFailed};
 
 /// Why nothing is given: the two ways in which reading the shape of a document, or looking up what its names mean, ends early.
-#[derive(Clone, Copy, Debug, PartialEq, Eq)]
+#[derive(Clone, Copy)]
 pub enum Missing {
     /// There is nothing: a key or a value is bad, a name means nothing in its place, or a limit is passed.
     Nothing,

@@ -4,7 +4,7 @@ use std::error::Error;
 use std::fmt;
 
 /// Why a document is not read. The fault alone says something of the document: want of memory may stand in place of any answer. This profile's own.
-#[derive(Clone, Copy, Debug, PartialEq, Eq)]
+#[derive(Clone, Copy, Debug)]
 pub enum Unread<F> {
     /// The document has this fault.
     Fault(F),

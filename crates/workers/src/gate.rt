@@ -15,7 +15,7 @@ pub trait Gate: Sync {
 }
 
 /// The gate that lets every step pass at once.
-#[derive(Clone, Copy, Debug, Default)]
+#[derive(Clone, Copy, Default)]
 pub struct NoGate;
 
 impl Gate for NoGate {

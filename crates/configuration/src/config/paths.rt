@@ -98,7 +98,7 @@ fn all_heard(rows: u64, crossings: u64) -> u64
 }
 
 /// Which lines media of a configuration goes between.
-#[derive(Clone, Copy, Debug)]
+#[derive(Clone, Copy)]
 pub struct Ways {
     /// For each line a byte, with a bit for each line that media goes to from it.
     lines: u64,
