@@ -17,4 +17,6 @@ mod taken_all;
 
 pub use account::{CountedShards, PlannedRun, finish};
 pub use outcome::Outcome;
-pub use run_shards::{CallPhase, Line, PLAN_CALLS, RunFault, epochs_of, is_restart, opened_call};
+pub use run_shards::{
+    CallPhase, Gate, Line, NoGate, PLAN_CALLS, RunFault, epochs_of, is_restart, opened_call,
+};

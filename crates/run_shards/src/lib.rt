@@ -22,8 +22,8 @@ pub use locked_shard::LockedShard;
 pub use opening::open_all;
 pub use places::Places;
 pub use planned_calls::{
-    CallCount, CallLog, CallPhase, Line, PLAN_CALLS, PlanTotals, PlannedCall, RunFault, Shard,
-    Standing, epochs_of, is_restart, lines_of, opened_call, phase_of,
+    CallCount, CallLog, CallPhase, Gate, Line, NoGate, PLAN_CALLS, PlanTotals, PlannedCall,
+    RunFault, Shard, Standing, epochs_of, is_restart, lines_of, opened_call, phase_of,
 };
 pub use restarted::RestartedShards;
 pub use run_plan::RunPlan;

@@ -5,7 +5,7 @@ use Rattle.std.specs.Prelude.{not}
 use Rattle.std.proofs.lemmas.Bool.{and_parts}
 use Rattle.mg_model.specs.contracts.events.EventPartialEq.TheImpl.{eq-value as events}
 use Rattle.mg_model.specs.declared.events.Event.{Event}
-use Rattle.runner.proofs.SameEvents.{same_event}
+use Rattle.run_account.proofs.SameEvents.{same_event}
 
 alike_so : (test : Bool) → false ≡ not test → test ≡ true
 alike_so true told = refl

@@ -7,10 +7,10 @@ use Rattle.mg_model.specs.declared.events.Event.{Event}
 use Rattle.mg_model.specs.declared.events.Event.TheVariants.{OfCall, Restart}
 use Rattle.mg_model.specs.Plans as plans
 use Rattle.mg_model.specs.Script.{Script}
-use Rattle.runner.specs.FinalState.{call_of}
-use Rattle.runner.specs.Runs.{OutcomeValue, is_within}
-use Rattle.runner.specs.Parts.{of_call}
-use Rattle.runner.specs.Line.{Line}
+use Rattle.run_account.specs.FinalState.{call_of}
+use Rattle.run_account.specs.Runs.{OutcomeValue, is_within}
+use Rattle.run_account.specs.Parts.{of_call}
+use Rattle.run_account.specs.Line.{Line}
 use Rattle.run_steps.specs.Telling.{IsGone, own_steps}
 use Rattle.run_steps.specs.declared.call_steps.CallSteps.{CallSteps}
 use Rattle.taken_steps.specs.declared.came.Came.{Came}

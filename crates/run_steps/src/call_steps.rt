@@ -2,7 +2,7 @@
 ghost use Rattle.std.specs.Prelude.{◌≡◌, ◌==◌, ◌++◌, ◌∷◌, ◌≤◌, [], IfOk, IfSome, OnOk};
 ghost use Rattle.std.specs.List.{All, filter};
 ghost use Rattle.mg_model.specs.Plans as plans;
-ghost use Rattle.runner.specs.FinalState.{call_of};
+ghost use Rattle.run_account.specs.FinalState.{call_of};
 ghost use Rattle.run_steps.specs.CallsTold.{IsCallTold, IsLineTold, event_told, events_told, idle_told, idle_told_in, is_part_of};
 ghost use Rattle.run_steps.specs.Telling.{IsFirst, IsGone, own_steps};
 
@@ -13,7 +13,7 @@ use composition::Checked;
 use mg_model::events::Event;
 use mg_names::identifiers::{Assoc, CallNo};
 use plans::{Plan, PlanCall};
-use runner::{Line, Outcome, PLAN_CALLS, RunFault, epochs_of, opened_call};
+use run_account::{Line, Outcome, PLAN_CALLS, RunFault, epochs_of, opened_call};
 use std::alloc::{AllocError, Global};
 use taken_steps::{Came, OpenFault, Shard};
 

@@ -14,6 +14,5 @@ mod telling;
 mod told_step;
 
 pub use passed_steps::PassedSteps;
-pub use runner::run;
 pub use taken_steps::{Came, Idle, Position};
 pub use told_step::ToldStep;

@@ -2,7 +2,7 @@
 use mg_model::plans::PlanStep;
 use mg_names::identifiers::Assoc;
 use plans::{Plan, PlanCall};
-use runner::{Gate, RunFault, is_restart};
+use run_account::{Gate, RunFault, is_restart};
 use std::alloc::{AllocError, Global};
 use std::sync::{Mutex, Wait};
 

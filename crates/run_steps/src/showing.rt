@@ -2,7 +2,7 @@
 use agent::Next;
 use mg_model::events::Event;
 use mg_names::identifiers::{CallNo, LineNo};
-use runner::RunFault;
+use run_account::RunFault;
 use script_table::Script;
 use std::alloc::Global;
 use taken_steps::{Came, Scene, SceneFault, Shown};

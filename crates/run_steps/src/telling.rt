@@ -10,7 +10,7 @@ use agent::Next;
 use mg_model::plans::PlanStep;
 use mg_names::identifiers::{Assoc, CallNo};
 use plans::Epoch;
-use runner::{RunFault, is_restart};
+use run_account::{RunFault, is_restart};
 use taken_steps::{Came, Position, Scene, Shard, Taken, position_of, take};
 
 /// How far a call of the plan is told.

@@ -9,6 +9,6 @@ mod plan_run;
 
 pub use plan_run::run;
 pub use run_account::{
-    CallPhase, Line, Outcome, PLAN_CALLS, RunFault, epochs_of, is_restart, opened_call,
+    CallPhase, Gate, Line, NoGate, Outcome, PLAN_CALLS, RunFault, epochs_of, is_restart,
+    opened_call,
 };
-pub use workers::{Gate, NoGate};

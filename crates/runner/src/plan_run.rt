@@ -8,11 +8,11 @@ ghost use Rattle.runner.specs.OnlyReport.{IsOnlyReport};
 use composition::Checked;
 use mg_reports::one_report::one_report;
 use plans::Plan;
-use run_account::{CountedShards, Outcome, PlannedRun, RunFault, finish};
+use run_account::{CountedShards, Gate, Outcome, PlannedRun, RunFault, finish};
 use std::alloc::Global;
 use std::sync::Wait;
 use std::thread::Threads;
-use workers::{Gate, run_calls};
+use workers::run_calls;
 
 /// The most calls of a plan.
 const MOST_CALLS: usize = 10_000;

@@ -6,12 +6,12 @@ ghost use Rattle.call_queues.specs.Passing.{IsOwner, IsWorkersAt, OwnersKeep};
 ghost use Rattle.workers.specs.PlanSteps.{AreOver, at_first_step};
 ghost use Rattle.workers.specs.Working.{LeavesOver, OwnersStayOver, PassesOn};
 
-use crate::gate::Gate;
 use crate::worker::{Job, Worked, work};
 use crate::workplace::Workplace;
 use crate::{Places, PlannedCall, RunFault, Running};
 use call_queues::{QueueFault, QueueOwner, absorb_all, open_queues, settle, worker_queues};
 use handover::Queue;
+use run_shards::Gate;
 use std::alloc::Global;
 use std::sync::Wait;
 use std::thread;

@@ -8,7 +8,6 @@ ghost use Rattle.workers.specs.Counting.{AreCounted};
 ghost use Rattle.workers.specs.PlanSteps.{AreOver, HaveEnded};
 
 use crate::epoch::pass;
-use crate::gate::Gate;
 use crate::passed_epochs::PassedEpochs;
 use crate::workplace::Workplace;
 use crate::{
@@ -17,6 +16,7 @@ use crate::{
 };
 use composition::Checked;
 use plans::Plan;
+use run_shards::Gate;
 use std::alloc::Global;
 use std::marker::Brand;
 use std::sync::{Mutex, Wait};

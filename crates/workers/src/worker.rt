@@ -5,11 +5,10 @@ ghost use Rattle.call_queues.specs.Passing.{IsWorkers, IsWorkersAt};
 ghost use Rattle.workers.specs.PlanSteps.{IsFurther, is_over, item_is_over};
 ghost use Rattle.workers.specs.Working.{LeavesOver, StayOver, StaysOver};
 
-use crate::gate::Gate;
 use crate::workplace::Workplace;
 use call_queues::WorkerQueue;
 use handover::{NumberedItem, Queue};
-use run_shards::{PlannedCall, RunFault, Running};
+use run_shards::{Gate, PlannedCall, RunFault, Running};
 use std::sync::Wait;
 
 /// How many steps of a call a worker does before it hands it back.

@@ -2,10 +2,10 @@
 ghost use Rattle.std.specs.Prelude.{◌≡◌, ◌+◌, ◌<◌, ◌%◌, IfOk, IfSome, length};
 ghost use Rattle.run_shards.specs.PlanSteps.{step_at};
 
-use crate::gate::Gate;
 use mg_model::plans::PlanStep;
 use run_shards::{
-    CallLog, LockedShard, PlannedCall, RestartedShards, RunFault, RunPlan, Running, is_restart,
+    CallLog, Gate, LockedShard, PlannedCall, RestartedShards, RunFault, RunPlan, Running,
+    is_restart,
 };
 use std::sync::{Mutex, Wait};
 

@@ -1,8 +1,8 @@
 -- What was compared is the same.
 use Rattle.std.proofs.Common.{◌≡◌, ◌∙◌, ℕ, List, length, sym, ap, arith}
 use Rattle.mg_model.specs.declared.events.Event.{Event}
-use Rattle.runner.specs.Parts.{of_call}
-use Rattle.runner.specs.FinalState.{call_of}
+use Rattle.run_account.specs.Parts.{of_call}
+use Rattle.run_account.specs.FinalState.{call_of}
 use Rattle.run_steps.specs.CallsTold.{events_told, idle_told}
 use Rattle.run_steps.proofs.SameTranscripts.{same_events}
 use Rattle.run_steps.proofs.call_steps.agree.Goals as goal

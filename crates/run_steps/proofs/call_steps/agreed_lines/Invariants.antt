@@ -2,7 +2,7 @@
 use Rattle.std.proofs.Common.{◌≡◌, take}
 use Rattle.std.specs.Prelude.{◌==◌}
 use Rattle.std.specs.List.{All, filter}
-use Rattle.runner.specs.Line.{Line}
+use Rattle.run_account.specs.Line.{Line}
 use Rattle.run_steps.specs.CallsTold.{IsLineTold}
 use Rattle.run_steps.proofs.call_steps.agreed_lines.Given as goal
 
