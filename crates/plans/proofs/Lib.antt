@@ -1,4 +1,5 @@
 pub mod AcceptedPlans
 pub mod LineLemmas
 pub mod NumberLemmas
+pub mod OneWord
 pub mod Readings

@@ -1,9 +1,12 @@
 //! The tables of a plan.
-ghost use Rattle.std.specs.Prelude.{◌≡◌, ◌≤◌, codes, map, option_map, IfOk};
+ghost use Rattle.std.specs.Prelude.{◌≡◌, ◌≤◌, ◌==◌, ◌∷◌, [], true, codes, map, not, option_map, IfOk};
+ghost use Rattle.std.specs.List.{list_all};
 ghost use Rattle.toml.specs.View.{view, table_view};
 ghost use Rattle.typed_values.specs.Shape.{Gives};
 ghost use Rattle.typed_values.specs.Keys.{optional};
+ghost use Rattle.typed_values.specs.Texts.{words_of};
 ghost use Rattle.plans.specs.Tables.{whole_meant, shards_meant, call_in, plan_in};
+ghost use Rattle.plans.specs.Texts.{step_of};
 
 use crate::for_script::{ReadsFor, items, listed_items, needed_items};
 use crate::lines::names_line_twice;
@@ -50,6 +53,31 @@ impl ReadsFor for LineNo {
     }
 }
 
+/// Whether a text has no space.
+fn has_no_space(text: &str) -> bool
+    ensures { result ≡ list_all (λ byte. not (byte == 32)) text.now }
+{
+    text.as_bytes().iter().all(|byte| *byte != b' ')
+}
+
+/// Whether a text is one word.
+fn is_one_word(text: &str) -> bool
+    ensures { result ≡ true → words_of text.now ≡ text.now ∷ [] }
+{
+    has_no_space(text)
+}
+
+/// The step that a text writes. Most are of one word, and no list is made for it.
+fn step_in(alloc: Global, script: &Script, text: &str) -> Result<PlanStep, Missing>
+    ensures { Gives (λ s. s) result (step_of script.now.lines (words_of text.now)) }
+{
+    if is_one_word(text) {
+        return steps::step(script, &[text]).ok_or(Missing::Nothing);
+    }
+    let words = words(alloc, text)?;
+    steps::step(script, words.as_slice()).ok_or(Missing::Nothing)
+}
+
 impl ReadsFor for PlanStep {
     ghost use Rattle.mg_model.specs.declared.plans.PlanStep.{PlanStep};
     ghost use Rattle.plans.specs.Tables.{step_meant};
@@ -63,8 +91,7 @@ impl ReadsFor for PlanStep {
     #[tactic(auto, unfolding(crate::specs::Tables::step_meant))]
     fn read(alloc: Global, script: &Script, value: &Value) -> Result<PlanStep, Missing> {
         let text = text(value)?;
-        let words = words(alloc, text)?;
-        steps::step(script, words.as_slice()).ok_or(Missing::Nothing)
+        step_in(alloc, script, text)
     }
 }
 

@@ -38,7 +38,17 @@ fn push_association(
     Ok(())
 }
 
+/// How many events some histories have together, or the greatest number where they have more.
+fn events_in(histories: &[&[Event]]) -> usize {
+    let mut events = 0usize;
+    for history in histories {
+        events = events.saturating_add(history.len());
+    }
+    events
+}
+
 /// One history of several: association by association, in each one history after the other, and one restart between two. `AllocError` where memory ran out.
+/// Room is made for all of it once, so that it never doubles.
 pub fn merge(
     alloc: Global,
     histories: &[&[Event]],
@@ -46,7 +56,7 @@ pub fn merge(
 ) -> Result<Vec<Event>, AllocError>
     ensures { IfOk result (λ merged_events. merged_events.items ≡ merged (map (λ h. cut_at_restarts h.now) histories.now) restarts) }
 {
-    let mut events = Vec::new(alloc);
+    let mut events = Vec::with_capacity(alloc, events_in(histories))?;
     let mut places = vec![in alloc; 0usize; histories.len()]?;
     for _ in 0..restarts {
         push_association(&mut events, histories, places.as_mut_slice())?;

@@ -16,7 +16,7 @@ loop-init c =
     let first : c.in_ok-places.places.items ≡ replicate (length c.args.histories.now) 0 = c.in_ok-places.ensures.items_if_clones_equal (λ y same. same) in
     record {
       sized = ap (λ (places : List ℕ). length places) first ∙ length-replicate (length c.args.histories.now) 0;
-      so_far = none_merged c.new-events.result.items c.in_ok-places.places.items histories c.args.restarts c.new-events.ensures.items
+      so_far = none_merged c.in_ok-events.events.items c.in_ok-places.places.items histories c.args.restarts c.in_ok-events.ensures.items
           (first ∙ ap (λ (count : ℕ). replicate count 0) (sym sized));
     }
 
