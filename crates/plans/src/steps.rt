@@ -161,16 +161,17 @@ pub(crate) fn step(script: &Script, words: &[&str]) -> Option<PlanStep>
     let [word, rest @ ..] = words else {
         return None;
     };
+    // The words that most plans have most of come first: they are compared in this order.
     match *word {
+        "execute" => executed(rest),
+        "reply" => Some(PlanStep::TakesReply(which(rest)?)),
+        "note" => Some(PlanStep::TakesNote(which(rest)?)),
         "off" => Some(PlanStep::GoesOff(line(script, rest)?)),
         "on" => Some(PlanStep::GoesOn(line(script, rest)?)),
         "flash" => Some(PlanStep::Flashes(line(script, rest)?)),
         "pause" => Some(PlanStep::Pauses(line(script, rest)?)),
         "digit" => dialled(script, rest),
         "end" => ended(script, rest),
-        "execute" => executed(rest),
-        "reply" => Some(PlanStep::TakesReply(which(rest)?)),
-        "note" => Some(PlanStep::TakesNote(which(rest)?)),
         "pass" => alone(PlanStep::Passes, rest),
         "timer" => alone(PlanStep::TimesOut, rest),
         "hear" => alone(PlanStep::Hears, rest),
