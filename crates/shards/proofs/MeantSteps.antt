@@ -1,6 +1,6 @@
 -- A step means, in each world that a shard shows, the event that the record of its call gives.
 use Rattle.std.proofs.Common.{◌≡◌, ◌∙◌, ◌==◌, ℕ, true, List, Option, Some, None, refl, sym, ap, subst}
-use Rattle.std.specs.Prelude.{Contains, option_map}
+use Rattle.std.specs.Prelude.{Contains, IfSome, option_map}
 use Rattle.std.specs.List.{find}
 use Rattle.std.proofs.lemmas.Bool.{eqb-true, eq-eqb}
 use Rattle.mg_model.proofs.Cases.{and_first, none_is_some}
@@ -19,12 +19,14 @@ use Rattle.shards.proofs.FoundNotes.{lowest_found, none_passes}
 use Rattle.shards.proofs.MessageLemmas.{found_in}
 use Rattle.shards.proofs.ShardLemmas.{world_numbered}
 use Rattle.shards.proofs.ShardSteps.{AreSameRecords, none_same, one_same, refused_counts, shard_unchanged, step_refused}
-use Rattle.shards.specs.Meaning.{HasNumberedNotes, IsMeant, IsSameEntry, IsTiedEntry, MeansIn, event_in, event_of_entry}
+use Rattle.shards.specs.Meaning.{HasNumberedNotes, IsCountedAs, IsMeant, IsSameEntry, IsTiedEntry, IsToldOf, MeansIn, event_in, event_of_entry, event_told}
 use Rattle.shards.specs.Shards.{IsShard, IsUnchanged, ShardValue}
 use Rattle.shards.specs.Shows.{ShowsCall}
+use Rattle.shards.specs.Standings.{TellsStanding}
 use Rattle.shards.specs.CallTable.{OthersStay, record_in}
 use Rattle.shards.specs.CallRecords.{request_in}
 use Rattle.shards.specs.declared.call_record.CallRecord.{CallRecord}
+use Rattle.shards.specs.declared.meant.Meant.{Meant}
 
 module _ (w : World) (s : CallRecord) (shows : ShowsCall w (agent_of s.agent).call s) (numbered : AreNumberedFrom 1 (note_numbers s.messages.sent.notes))
     (association next : ℕ) (told : w.gateway.association ≡ association) where
@@ -145,3 +147,33 @@ module _ (v : ShardValue) (call : ℕ) (entries : List (ℕ × CallRecord)) (sam
 
   pub entry_kept : IsShard v → IsShard after
   entry_kept was = shard_unchanged v after was entry_unchanged (refused_counts v v.gateway entries (refl, λ c. refl) call_table was.counts)
+
+-- ---- with where the call is
+
+module _ (v : ShardValue) (call association next : ℕ) (step : PlanStep) where
+  pub told_stands : (entry : Option CallRecord) → record_in v.call_table call ≡ entry → (told : Option Meant) → IsToldOf entry association next step told
+      → TellsStanding v call (option_map (λ (t : Meant). t.standing) told)
+  told_stands None there None is w shown = shown.shows.no_others call there
+  told_stands None there (Some told) is w shown = absurd is
+  told_stands (Some s) there None is w shown = absurd is
+  told_stands (Some s) there (Some told) is w shown = record {
+    agent = agent_of s.agent;
+    open_call = (shown.shows.calls call s there).agent;
+    association = is.0.association;
+    state = is.0.state;
+    at_rest = is.0.at_rest;
+  }
+
+  pub told_event : (entry : Option CallRecord) (told : Option Meant) → IsToldOf entry association next step told
+      → event_told told ≡ event_of_entry entry association next step
+  told_event None None is = refl
+  told_event None (Some told) is = absurd is
+  told_event (Some s) None is = absurd is
+  told_event (Some s) (Some told) is = is.1
+
+  pub told_counted : (entry : Option CallRecord) (told : Option Meant) → IsToldOf entry association next step told → (entries : List (ℕ × CallRecord))
+      → IsSameEntry entry (record_in entries call) → IfSome told (λ (t : Meant). IsCountedAs (record v { call_table = entries }) call t.events)
+  told_counted None None is entries same = tt
+  told_counted None (Some told) is entries same = absurd is
+  told_counted (Some s) None is entries same = tt
+  told_counted (Some s) (Some told) is entries (t, there, alike) = record { call_record = t; held = there; counted = is.2 ∙ sym alike.events }

@@ -15,9 +15,12 @@ use Rattle.mg_model.specs.Reports.{Means, is_waiting, refusal_at}
 use Rattle.mg_model.specs.World.{World, on_a_line, execute, reply, pass, note, timer, begin, hear}
 use Rattle.agent.specs.AgentValue.{agent_of}
 use Rattle.shards.specs.Messages.{AreNumberedFrom, note_numbers, reply_for}
+use Rattle.shards.specs.CallTable.{record_in}
 use Rattle.shards.specs.Shards.{IsWorldOf, ShardValue}
+use Rattle.shards.specs.Standings.{Stands}
 use Rattle.shards.specs.CallRecords.{IsSameRecord, IsTied, request_in}
 use Rattle.shards.specs.declared.call_record.CallRecord.{CallRecord}
+use Rattle.shards.specs.declared.meant.Meant.{Meant}
 
 -- ---- of a record
 
@@ -77,3 +80,24 @@ MeansIn w (Some a) next step None = (event : Event) → Means w a next step even
 -- whatever world a shard shows, the step means this event in it for the call, or no event
 abbrev pub IsMeant : ShardValue → (call next : ℕ) → PlanStep → Option Event → Type 0
 IsMeant v call next step told = (w : World) → IsWorldOf v w → MeansIn w (w.agent call) next step told
+
+-- ---- with where the call is
+
+-- the event that was told; none where the call isn't open
+abbrev pub event_told : Option Meant → Option Event
+event_told None = None
+event_told (Some told) = told.event
+
+-- what is told by the record of a call that may have none
+abbrev pub IsToldOf : Option CallRecord → (association next : ℕ) → PlanStep → Option Meant → Type 0
+IsToldOf None association next step None = Unit {0}
+IsToldOf None association next step (Some told) = ⊥
+IsToldOf (Some s) association next step None = ⊥
+IsToldOf (Some s) association next step (Some told) =
+    Stands (agent_of s.agent) told.standing × (told.event ≡ event_in s association next step) × (told.events ≡ s.events)
+
+-- the shard counts so many events of a call that is open there
+pub record IsCountedAs (v : ShardValue) (call events : ℕ) : Type 0 where
+  pub call_record : CallRecord
+  pub held : record_in v.call_table call ≡ Some call_record
+  pub counted : events ≡ call_record.events

@@ -6,6 +6,12 @@ use Rattle.mg_model.specs.World.{World}
 use Rattle.shards.specs.Shards.{IsWorldOf, ShardValue}
 use Rattle.shards.specs.declared.standing.Standing.{Standing}
 
+-- what is told of an agent
+pub record Stands (a : Agent) (s : Standing) : Type 0 where
+  pub association : s.association.0 ≡ a.association
+  pub state : s.state ≡ a.state
+  pub at_rest : s.is_resting ≡ is_resting a.phase
+
 -- the agent of a call is there
 pub record StandsAs (w : World) (call : ℕ) (s : Standing) : Type 0 where
   pub agent : Agent

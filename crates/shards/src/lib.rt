@@ -19,6 +19,7 @@ mod could_happen;
 mod fault;
 mod laws;
 mod meaning;
+mod meant;
 mod messages;
 mod opened;
 mod opening;
@@ -28,6 +29,7 @@ mod step;
 mod stepped;
 
 pub use fault::{OpenFault, RestartFault};
+pub use meant::Meant;
 pub use opened::OpenedCall;
 pub use shard::Shard;
 pub use standing::Standing;

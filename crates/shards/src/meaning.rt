@@ -129,7 +129,7 @@ fn settled_from(agent: &Plain, notes: &[SentNote], settled: usize) -> usize
 }
 
 /// Counts on over the notes that are settled, so that none is looked at once more.
-fn settle(call_record: &mut CallRecord)
+pub(crate) fn settle(call_record: &mut CallRecord)
     requires { IsTied call_record.old }
     ensures same { IsSameRecord call_record.old call_record.new }
     ensures tied { IsTied call_record.new }
@@ -175,7 +175,7 @@ fn begins(call_record: &CallRecord, next: CallNo) -> Event
 }
 
 /// The event that a step means for the call of a record, where the gateway is in this association and the next call to begin has this number.
-fn event(
+pub(crate) fn event(
     call_record: &CallRecord,
     association: Assoc,
     next: CallNo,

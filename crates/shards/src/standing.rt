@@ -1,6 +1,8 @@
 //! Where a call that is open in a shard is.
-ghost use Rattle.shards.specs.Standings.{TellsStanding};
+ghost use Rattle.agent.specs.AgentValue.{agent_of};
+ghost use Rattle.shards.specs.Standings.{Stands, TellsStanding};
 
+use crate::call_record::CallRecord;
 use crate::call_table;
 use crate::shard::Shard;
 use mg_names::identifiers::{Assoc, CallNo};
@@ -14,6 +16,18 @@ pub struct Standing {
     pub state: u8,
     /// Whether it waits for no reply and for no pass.
     pub is_resting: bool,
+}
+
+/// Where the call of a record is.
+pub(crate) fn standing_of(call_record: &CallRecord) -> Standing
+    ensures { Stands (agent_of call_record.now.agent) result }
+{
+    let agent = &call_record.agent;
+    Standing {
+        association: agent.association(),
+        state: agent.state(),
+        is_resting: agent.is_resting(),
+    }
 }
 
 impl<'s> Shard<'s> {

@@ -123,6 +123,24 @@ impl<'s> Shard<'s> {
         (next, Ok(Stepped::Done))
     }
 
+    /// An event happens to the shard and to a call that it holds.
+    fn happens(
+        &mut self,
+        next: Next<'s>,
+        call: CallNo,
+        event: CallEvent,
+    ) -> (Next<'s>, Result<Stepped, Refusal>)
+        ensures { IsStep self.old self.new next.entry result.0 (OfCall call event) result.1 }
+    {
+        match event {
+            CallEvent::Begin { old } => self.begin(next, call, old),
+            CallEvent::OnLine { .. } | CallEvent::Execute { .. } => {
+                self.step_at_gateway(next, call, event)
+            }
+            _ => self.step_at_agent(next, call, event),
+        }
+    }
+
     /// The event of a call happens to the shard and to the call that is handed in, which comes back after it; an event that begins a call comes with what is
     /// left of the one on whose lines it begins. `NotEnabled` where the shard doesn't hold the call, or where the event isn't one of that call, or can't happen
     /// to it or in the shard: a message was never sent, a line is held by another call, or the call isn't in the phase for it, among others. `Behind` where the
@@ -139,12 +157,22 @@ impl<'s> Shard<'s> {
         if let Err(why) = self.holds(&next, call, event) {
             return (next, Err(why));
         }
+        self.happens(next, call, event)
+    }
+
+    /// The same of a call that is handed in with a transcript of as many events as the shard counts of it, as `meant` tells: the shard isn't asked for that once
+    /// more.
+    pub fn step_held(
+        &mut self,
+        next: Next<'s>,
+        event: Event,
+    ) -> (Next<'s>, Result<Stepped, Refusal>)
+        requires { IsUpToDate self.old next }
+        ensures { IsStep self.old self.new next.entry result.0 event result.1 }
+    {
         match event {
-            CallEvent::Begin { old } => self.begin(next, call, old),
-            CallEvent::OnLine { .. } | CallEvent::Execute { .. } => {
-                self.step_at_gateway(next, call, event)
-            }
-            _ => self.step_at_agent(next, call, event),
+            Event::OfCall { call, event } => self.happens(next, call, event),
+            Event::Restart => (next, Err(Refusal::NotEnabled)),
         }
     }
 }
