@@ -11,7 +11,7 @@ from shared import checks, flat, measuring, scripts, slow_checks
 
 TOP = Path(__file__).resolve().parents[2]
 SOURCE = TOP / "tests/plain_checker.cpp"
-LAYERS = TOP / "crates/bench_layers/out/bench_layers"
+LAYERS = TOP / "crates/test_rows/out/test_rows"
 # The functions below which a script and a certificate are read, and the entries walked.
 READING, WALK = "composition::verdict::read_documents", "closure::first_fault::check_run"
 
@@ -120,7 +120,7 @@ def has_documents():
         empty.write("{}")
         empty.flush()
         with open(empty.name, "rb") as text:
-            return not subprocess.run([LAYERS, "certificate", "json"], stdin=text, stdout=subprocess.DEVNULL, check=False).returncode
+            return not subprocess.run([LAYERS, "json"], stdin=text, stdout=subprocess.DEVNULL, check=False).returncode
 
 
 def ratio(own, beside):
@@ -131,7 +131,7 @@ def libraries(each, cost):
     """What the libraries alone take for the two documents, by such a cost of a command and a path; 0 where the layers aren't there."""
     if not has_documents():
         return 0
-    return cost([LAYERS, "script", "toml"], each.script) + cost([LAYERS, "certificate", "json"], each.certificate)
+    return cost([LAYERS, "toml"], each.script) + cost([LAYERS, "json"], each.certificate)
 
 
 def check_by_instructions():

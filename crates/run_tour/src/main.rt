@@ -5,8 +5,6 @@
 //! more where that wanted memory; where memory was wanted elsewhere the status is 4. Functions own little and have few exits, which is what their proofs cost by.
 #![tactic(auto)]
 
-ghost use Rattle.plans.specs.Accepted.{IsPlanFor};
-
 mod meeting;
 mod stopping;
 mod tour_gate;
@@ -17,7 +15,7 @@ use crate::tour_gate::TourGate;
 use composition::{CheckFault, Checked, Verdict, check};
 use mg_names::identifiers::CallNo;
 use plans::Plan;
-use runner::{Line, Outcome, RunFault, run};
+use runner::{Line, Outcome, PLAN_CALLS, RunFault, run};
 use script_table::Script;
 use std::alloc::Global;
 use std::env;
@@ -27,8 +25,6 @@ use std::sync::Wait;
 use std::thread::Threads;
 use typed_values::Unread;
 
-/// The `g`th call that begins within call `n` of the plan has the number `g` times this, and `n`.
-const PLAN_CALLS: u32 = 10_000;
 /// What stands between the documents of an input.
 const DIVIDER: &str = "\n%%\n";
 
@@ -43,28 +39,12 @@ enum End {
     Refused,
 }
 
-/// What the words ask for.
-#[derive(Clone, Copy)]
-enum Kind {
-    Lines,
-    Meet,
-    Count,
-    Stop { seed: u64 },
-}
-
-/// What the words ask for, and on how many workers.
-#[derive(Clone, Copy)]
-struct Asked {
+/// What the words ask for: on how many workers, whether events are counted in place of lines, and what is done before each step.
+#[derive(Drop)]
+struct Asked<'r> {
     workers: usize,
-    kind: Kind,
-}
-
-/// The name of a state.
-fn name_of(script: &Script, state: u8) -> &str {
-    match script.state(state) {
-        Some(state) => state.name(),
-        None => "-",
-    }
+    is_counted: bool,
+    gate: TourGate<'r>,
 }
 
 /// How it ended where something was printed or couldn't be.
@@ -79,47 +59,35 @@ fn printed(answer: io::Result<()>) -> End {
 /// Prints the line of a call.
 fn tell_line(rt: &HostRuntime, script: &Script, line: &Line) -> End {
     let (call, begun, events, idle) = (line.call, line.begun, line.events, line.idle);
-    let (name, word) = (name_of(script, line.state), line.phase.text());
+    let name = match script.state(line.state) {
+        Some(state) => state.name(),
+        None => "-",
+    };
+    let word = line.phase.text();
     if begun == 0 {
         return printed(println!(rt; "call {call} {name} {word} events={events} idle={idle}"));
     }
     printed(println!(rt; "call {call}.{begun} {name} {word} events={events} idle={idle}"))
 }
 
-/// The call that a line tells of.
-fn call_of(line: &Line) -> Option<CallNo> {
-    let begun = u32::try_from(line.begun).ok()?;
-    let number = begun.saturating_mul(PLAN_CALLS);
-    Some(CallNo(number.saturating_add(line.call)))
-}
-
-/// How much happened to a call, asked once more where that wanted memory.
-fn events_of(alloc: Global, outcome: &Outcome<'_>, call: CallNo) -> Option<usize> {
-    if let Ok(events) = outcome.transcript(alloc, call) {
-        return Some(events.len());
-    }
-    match outcome.transcript(alloc, call) {
-        Ok(events) => Some(events.len()),
-        Err(_) => None,
-    }
-}
-
 /// Whether a line counts what happened to its call.
 fn counts(alloc: Global, outcome: &Outcome<'_>, line: &Line) -> End {
-    let Some(call) = call_of(line) else {
-        return End::Refused;
-    };
-    match events_of(alloc, outcome, call) {
-        Some(events) if events == line.events => End::Well,
-        Some(_) => End::Refused,
-        None => End::NoMemory,
+    let begun = u32::try_from(line.begun).unwrap_or(0);
+    let number = begun.saturating_mul(PLAN_CALLS).saturating_add(line.call);
+    match outcome.transcript(alloc, CallNo(number)) {
+        Ok(events) if events.len() == line.events => End::Well,
+        Ok(_) => End::Refused,
+        Err(_) => End::NoMemory,
     }
 }
 
-/// Prints the lines of a run.
+/// Prints the lines of a run; what happened to a call is asked once more where that wanted memory.
 fn tell_lines(rt: &HostRuntime, script: &Script, outcome: &Outcome<'_>) -> End {
     for line in outcome.lines() {
         let mut end = counts(rt.alloc(), outcome, line);
+        if end == End::NoMemory {
+            end = counts(rt.alloc(), outcome, line);
+        }
         if end == End::Well {
             end = tell_line(rt, script, line);
         }
@@ -131,8 +99,8 @@ fn tell_lines(rt: &HostRuntime, script: &Script, outcome: &Outcome<'_>) -> End {
 }
 
 /// Prints what a run came to.
-fn tell(rt: &HostRuntime, script: &Script, outcome: &Outcome<'_>, kind: Kind) -> End {
-    if kind == Kind::Count {
+fn tell(rt: &HostRuntime, script: &Script, outcome: &Outcome<'_>, is_counted: bool) -> End {
+    if is_counted {
         return printed(println!(rt; "{}", outcome.history().len()));
     }
     tell_lines(rt, script, outcome)
@@ -146,29 +114,64 @@ fn tell_fault(rt: &HostRuntime, fault: RunFault) -> End {
     }
 }
 
-/// Prints what a run through a gate came to.
-fn go<T: Threads + Wait + Sync>(
+/// A plan for this script, read and run.
+fn tour<T: Threads + Wait + Sync>(
     rt: &HostRuntime,
     threads: &T,
     checked: &Checked,
-    plan: &Plan,
-    asked: Asked,
-    gate: &TourGate<'_>,
-) -> End
-    requires { IsPlanFor checked.now.table plan.now }
-{
-    match run(threads, rt.alloc(), checked, plan, asked.workers, gate) {
-        Ok(outcome) => tell(rt, checked.script(), &outcome, asked.kind),
-        Err(fault) => tell_fault(rt, fault),
+    text: &str,
+    asked: &Asked<'_>,
+) -> End {
+    match Plan::read(rt.alloc(), text.as_bytes(), checked.script()) {
+        Ok(plan) => {
+            match run(threads, rt.alloc(), checked, &plan, asked.workers, &asked.gate) {
+                Ok(outcome) => tell(rt, checked.script(), &outcome, asked.is_counted),
+                Err(fault) => tell_fault(rt, fault),
+            }
+        }
+        Err(Unread::NoMemory) => End::NoMemory,
+        Err(Unread::Fault(_)) => End::Refused,
     }
 }
 
-/// The gate that the words ask for.
-fn gate_of(rt: &HostRuntime, kind: Kind) -> TourGate<'_> {
-    match kind {
-        Kind::Meet => TourGate::Meeting(Meeting::new()),
-        Kind::Stop { seed } => TourGate::Stopping(Stopping::new(rt, seed)),
-        Kind::Lines | Kind::Count => TourGate::Open,
+/// The plans of a text for this script.
+fn tour_all<T: Threads + Wait + Sync>(
+    rt: &HostRuntime,
+    threads: &T,
+    checked: &Checked,
+    plans: &str,
+    asked: &Asked<'_>,
+) -> End {
+    for plan in plans.split(DIVIDER) {
+        let end = tour(rt, threads, checked, plan, asked);
+        if end != End::Well {
+            return end;
+        }
+    }
+    End::Well
+}
+
+/// The script, the certificate and the plans of an input.
+fn sections(text: &str) -> Option<(&str, &str, &str)> {
+    let (script, rest) = text.split_once(DIVIDER)?;
+    let (certificate, plans) = rest.split_once(DIVIDER)?;
+    Some((script, certificate, plans))
+}
+
+/// The plans of an input, with its script and its certificate.
+fn all<T: Threads + Wait + Sync>(
+    rt: &HostRuntime,
+    threads: &T,
+    text: &str,
+    asked: &Asked<'_>,
+) -> End {
+    let Some((script, certificate, plans)) = sections(text) else {
+        return End::Refused;
+    };
+    match check(rt.alloc(), script.as_bytes(), certificate.as_bytes()) {
+        Ok(Verdict::Yes(checked)) => tour_all(rt, threads, &checked, plans, asked),
+        Err(CheckFault::NoMemory) => End::NoMemory,
+        _ => End::Refused,
     }
 }
 
@@ -181,112 +184,42 @@ fn tell_meeting(rt: &HostRuntime, gate: &TourGate<'_>) -> End {
     }
 }
 
-/// A plan that was read for this script is run.
-fn tour_plan<T: Threads + Wait + Sync>(
-    rt: &HostRuntime,
-    threads: &T,
-    checked: &Checked,
-    plan: &Plan,
-    asked: Asked,
-) -> End
-    requires { IsPlanFor checked.now.table plan.now }
-{
-    let gate = gate_of(rt, asked.kind);
-    match go(rt, threads, checked, plan, asked, &gate) {
-        End::Well => tell_meeting(rt, &gate),
-        end => end,
+/// The word at a place; an empty one where there is none.
+fn word_at(words: &[String], place: usize) -> &str {
+    match words.get(place) {
+        Some(word) => word.as_str(),
+        None => "",
     }
 }
 
-/// A plan for this script, read and run.
-fn tour<T: Threads + Wait + Sync>(
-    rt: &HostRuntime,
-    threads: &T,
-    checked: &Checked,
-    text: &str,
-    asked: Asked,
-) -> End {
-    match Plan::read(rt.alloc(), text.as_bytes(), checked.script()) {
-        Ok(plan) => tour_plan(rt, threads, checked, &plan, asked),
-        Err(Unread::NoMemory) => End::NoMemory,
-        Err(Unread::Fault(_)) => End::Refused,
-    }
-}
-
-/// The plans of a text for this script.
-fn tour_all<T: Threads + Wait + Sync>(
-    rt: &HostRuntime,
-    threads: &T,
-    checked: &Checked,
-    plans: &str,
-    asked: Asked,
-) -> End {
-    for plan in plans.split(DIVIDER) {
-        let end = tour(rt, threads, checked, plan, asked);
-        if end != End::Well {
-            return end;
+/// The gate that the words ask for.
+fn gate_of<'r>(rt: &'r HostRuntime, words: &[String]) -> TourGate<'r> {
+    match word_at(words, 2) {
+        "meet" => TourGate::Meeting(Meeting::new()),
+        "stop" => {
+            let seed = word_at(words, 3).parse::<u64>().unwrap_or(0);
+            TourGate::Stopping(Stopping::new(rt, seed))
         }
-    }
-    End::Well
-}
-
-/// What the words ask for.
-fn asked_by(words: &[String]) -> Option<Asked> {
-    let Some(workers) = words.get(1) else {
-        return Some(Asked {
-            workers: 1,
-            kind: Kind::Lines,
-        });
-    };
-    Some(Asked {
-        workers: workers.as_str().parse().ok()?,
-        kind: kind_of(words)?,
-    })
-}
-
-/// What the words behind the number of workers ask for.
-fn kind_of(words: &[String]) -> Option<Kind> {
-    let Some(word) = words.get(2) else {
-        return Some(Kind::Lines);
-    };
-    match word.as_str() {
-        "meet" => Some(Kind::Meet),
-        "stop" => Some(Kind::Stop {
-            seed: words.get(3)?.as_str().parse().ok()?,
-        }),
-        _ => Some(Kind::Count),
-    }
-}
-
-/// The script, the certificate and the plans of an input.
-fn sections(text: &str) -> Option<(&str, &str, &str)> {
-    let (script, rest) = text.split_once(DIVIDER)?;
-    let (certificate, plans) = rest.split_once(DIVIDER)?;
-    Some((script, certificate, plans))
-}
-
-/// The plans of an input, with its script and its certificate.
-fn all<T: Threads + Wait + Sync>(rt: &HostRuntime, threads: &T, text: &str, asked: Asked) -> End {
-    let Some((script, certificate, plans)) = sections(text) else {
-        return End::Refused;
-    };
-    match check(rt.alloc(), script.as_bytes(), certificate.as_bytes()) {
-        Ok(Verdict::Yes(checked)) => tour_all(rt, threads, &checked, plans, asked),
-        Err(CheckFault::NoMemory) => End::NoMemory,
-        _ => End::Refused,
+        _ => TourGate::Open,
     }
 }
 
 /// The input, as the words ask for.
 fn tour_input<T: Threads + Wait + Sync>(rt: &HostRuntime, threads: &T, words: &[String]) -> End {
-    let Some(asked) = asked_by(words) else {
-        return End::Refused;
+    let asked = Asked {
+        workers: word_at(words, 1).parse::<usize>().unwrap_or(1),
+        is_counted: word_at(words, 2) == "count",
+        gate: gate_of(rt, words),
     };
     let mut text = String::new(rt.alloc());
-    match rt.stdin().read_to_string(&mut text) {
-        Ok(_) => all(rt, threads, text.as_str(), asked),
+    let end = match rt.stdin().read_to_string(&mut text) {
+        Ok(_) => all(rt, threads, text.as_str(), &asked),
         Err(e) => printed(Err(e)),
+    };
+    if end == End::Well {
+        return tell_meeting(rt, &asked.gate);
     }
+    end
 }
 
 /// The words that the process was called with.

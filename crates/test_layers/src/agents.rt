@@ -69,18 +69,6 @@ fn prepare(
     }
 }
 
-/// Writes why a step wasn't taken.
-fn write_fault(page: &mut Page, fault: PlainFault) -> Answer {
-    match fault {
-        PlainFault::NoMemory => Answer::NoMemory,
-        fault => {
-            page.refused(u16::from(fault.number()), fault.name());
-            page.say(", ");
-            Answer::Told
-        }
-    }
-}
-
 /// Writes what a step that is prepared would send.
 fn write_ahead(page: &mut Page, ahead: &PreparedStep) {
     match ahead.request() {
@@ -90,15 +78,6 @@ fn write_ahead(page: &mut Page, ahead: &PreparedStep) {
             page.say(" commands, ");
         }
         None => page.say(", ahead no request, "),
-    }
-}
-
-/// Finishes or cancels what was prepared.
-fn settle(plain: &mut Plain, ahead: PreparedStep, is_finished: bool) {
-    if is_finished {
-        let _over = plain.finish(ahead);
-    } else {
-        plain.cancel(ahead);
     }
 }
 
@@ -152,48 +131,54 @@ impl Agents<'_> {
         write_plain(page, self.script, &self.plain)
     }
 
-    /// Writes of a step whether it was taken, and where the agent stands then.
-    fn step(&mut self, page: &mut Page, told: &Delivered) -> Answer {
-        if let Err(fault) = step(&mut self.plain, self.script, told) {
-            if write_fault(page, fault) == Answer::NoMemory {
-                return Answer::NoMemory;
+    /// Writes why something that reaches the agent comes to nothing, and where the agent stands then.
+    fn write_fault(&self, page: &mut Page, fault: PlainFault) -> Answer {
+        match fault {
+            PlainFault::NoMemory => Answer::NoMemory,
+            fault => {
+                page.refused(u16::from(fault.number()), fault.name());
+                page.say(", ");
+                write_plain(page, self.script, &self.plain)
             }
         }
-        write_plain(page, self.script, &self.plain)
+    }
+
+    /// Writes of a step whether it was taken, and where the agent stands then.
+    fn step(&mut self, page: &mut Page, told: &Delivered) -> Answer {
+        match step(&mut self.plain, self.script, told) {
+            Ok(()) => write_plain(page, self.script, &self.plain),
+            Err(fault) => self.write_fault(page, fault),
+        }
     }
 
     /// Writes of a step that is prepared where the agent stands before it is finished or cancelled, what it would send, and where the agent stands then.
-    fn settle(&mut self, page: &mut Page, ahead: PreparedStep, is_finished: bool) {
+    fn settle(&mut self, page: &mut Page, ahead: PreparedStep, is_finished: bool) -> Answer {
         write_plain(page, self.script, &self.plain);
         write_ahead(page, &ahead);
-        settle(&mut self.plain, ahead, is_finished);
+        if is_finished {
+            let _over = self.plain.finish(ahead);
+        } else {
+            self.plain.cancel(ahead);
+        }
+        write_plain(page, self.script, &self.plain)
     }
 
     /// The same of what reaches the agent.
     fn prepare(&mut self, page: &mut Page, told: &Delivered, is_finished: bool) -> Answer {
         match prepare(&mut self.plain, self.script, told) {
             Ok(ahead) => self.settle(page, ahead, is_finished),
-            Err(fault) => {
-                if write_fault(page, fault) == Answer::NoMemory {
-                    return Answer::NoMemory;
-                }
-            }
-        }
-        write_plain(page, self.script, &self.plain)
-    }
-
-    /// What reaches the agent is prepared, and then finished or cancelled.
-    fn ahead(&mut self, page: &mut Page, words: &mut Words<'_>, is_finished: bool) -> Answer {
-        match read(self.alloc, self.script, &self.party, words) {
-            Ok(told) => self.prepare(page, &told, is_finished),
-            Err(answer) => answer,
+            Err(fault) => self.write_fault(page, fault),
         }
     }
 
-    /// Something reaches the agent.
-    fn deliver(&mut self, page: &mut Page, words: &mut Words<'_>) -> Answer {
+    /// Something reaches the agent, or is prepared, and then finished or cancelled.
+    fn deliver(&mut self, page: &mut Page, how: &str, words: &mut Words<'_>) -> Answer {
         match read(self.alloc, self.script, &self.party, words) {
-            Ok(told) => self.step(page, &told),
+            Ok(told) => match how {
+                "finish" => self.prepare(page, &told, true),
+                "cancel" => self.prepare(page, &told, false),
+                _ => self.step(page, &told),
+            },
             Err(answer) => answer,
         }
     }
@@ -210,18 +195,15 @@ impl Layer for Agents<'_> {
 
     fn answer(&mut self, page: &mut Page, words: Words<'_>) -> Answer {
         let mut words = words;
-        let all = words;
-        match words.next() {
+        let mut all = words;
+        let verb = words.next();
+        match verb {
             "script" => write_sizes(page, self.script),
             "faults" => write_faults(page),
             "open" => self.open(page, &mut words),
             "begin" => self.begin(page, words.number()),
-            "finish" => self.ahead(page, &mut words, true),
-            "cancel" => self.ahead(page, &mut words, false),
-            _ => {
-                let mut words = all;
-                self.deliver(page, &mut words)
-            }
+            "finish" | "cancel" => self.deliver(page, verb, &mut words),
+            _ => self.deliver(page, verb, &mut all),
         }
     }
 }

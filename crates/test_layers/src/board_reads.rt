@@ -1,81 +1,54 @@
 //! What is read of a board, as answers of rows: what exists on it, what is kept of a termination, and where media goes.
-use crate::names::{self, Names};
+use crate::names::{self, Names, write_all};
 use crate::pages::{Answer, Page};
-use crate::results;
-use crate::words::Words;
+use crate::words::{Words, number};
 use contexts::Board;
-use mg_names::identifiers::ContextId;
 
-/// Writes how many contexts there are, and their names.
-fn write_contexts(page: &mut Page, names: &Names, contexts: &[ContextId]) -> Answer {
-    page.number(contexts.len() as u64);
-    page.say(":");
-    for context in contexts {
-        page.say(" ");
-        names.write_context(page, *context);
+/// Whether media from one termination to another is cut, goes, or goes either way, as the verb asks.
+fn asked(names: &Names, board: &Board, verb: &str, first: &str, second: &str) -> Option<bool> {
+    if verb == "cut" {
+        return match (names.termination(first), names.termination(second)) {
+            (Some(from), Some(to)) => Some(board.is_cut(from, to)),
+            _ => None,
+        };
     }
-    Answer::Told
-}
-
-/// Writes the lines of a board.
-pub(crate) fn write_lines(page: &mut Page, board: &Board) -> Answer {
-    match board.lines() {
-        Ok(found) => results::write_all_lines(page, found.as_slice()),
-        Err(_) => Answer::NoMemory,
-    }
-}
-
-/// Writes the ephemerals of a board.
-fn write_ephemerals(page: &mut Page, names: &Names, board: &Board) -> Answer {
-    match board.ephemerals() {
-        Ok(found) => results::write_all_ephemerals(page, names, found.as_slice()),
-        Err(_) => Answer::NoMemory,
-    }
-}
-
-/// Writes the contexts of a board.
-fn write_existing(page: &mut Page, names: &Names, board: &Board) -> Answer {
-    match board.context_numbers() {
-        Ok(found) => write_contexts(page, names, found.as_slice()),
-        Err(_) => Answer::NoMemory,
-    }
-}
-
-/// Whether media from one termination to another is cut.
-fn is_cut(names: &Names, board: &Board, from: &str, to: &str) -> Option<bool> {
-    match (names.termination(from), names.termination(to)) {
-        (Some(from), Some(to)) => Some(board.is_cut(from, to)),
+    match (names::line(first), names::line(second)) {
+        (Some(one), Some(other)) if verb == "path" => Some(board.path(one, other)),
+        (Some(one), Some(other)) if verb == "joined" => Some(board.joined(one, other)),
         _ => None,
     }
 }
 
-/// Whether media from one termination to another is cut, goes, or goes either way, as the verb asks.
-fn asked(names: &Names, board: &Board, verb: &str, words: &mut Words<'_>) -> Option<bool> {
-    let (first, second) = (words.next(), words.next());
-    match (names::line(first), names::line(second)) {
-        (Some(one), Some(other)) if verb == "path" => Some(board.path(one, other)),
-        (Some(one), Some(other)) if verb == "joined" => Some(board.joined(one, other)),
-        _ if verb == "cut" => is_cut(names, board, first, second),
+/// The number of a context or an ephemeral that was given.
+fn given(names: &Names, word: &str) -> Option<u32> {
+    match (names.ephemeral(word), names.context(word)) {
+        (Some(number), _) => Some(number),
+        (_, Some(context)) => Some(context.0),
         _ => None,
     }
 }
 
 /// The number that a verb asks for: of the members of a context, of a context or an ephemeral that was given, or what is left where that is divided.
-fn number_of(names: &Names, board: &Board, verb: &str, words: &mut Words<'_>) -> Option<u64> {
-    let word = words.next();
-    if verb == "members" {
-        return match names.context(word) {
-            Some(context) => Some(board.members(context).len() as u64),
-            None => None,
-        };
-    }
-    match (names.number(word), words.number()) {
-        (Some(number), Some(by)) if verb == "rest" => match number.checked_rem(by) {
-            Some(left) => Some(u64::from(left)),
-            None => None,
-        },
-        (Some(number), None) if verb == "number" => Some(u64::from(number)),
+fn number_of(names: &Names, board: &Board, verb: &str, first: &str, second: &str) -> Option<u32> {
+    match (names.context(first), given(names, first)) {
+        (Some(context), _) if verb == "members" => {
+            u32::try_from(board.members(context).len()).ok()
+        }
+        (_, Some(known)) if verb == "rest" => known.checked_rem(number(second).unwrap_or(0)),
+        (_, known) if verb == "number" => known,
         _ => None,
+    }
+}
+
+/// Writes an answer or a number, where there is one.
+fn write_found(page: &mut Page, answer: Option<bool>, number: Option<u32>) -> Answer {
+    match (answer, number) {
+        (Some(answer), _) => page.yes_or_no(answer),
+        (_, Some(number)) => {
+            page.number(u64::from(number));
+            Answer::Told
+        }
+        _ => Answer::NoCall,
     }
 }
 
@@ -85,37 +58,19 @@ pub(crate) fn write_read(
     names: &Names,
     board: &Board,
     verb: &str,
-    words: &mut Words<'_>,
-) -> Answer {
-    match verb {
-        "lines" => write_lines(page, board),
-        "ephemerals" => write_ephemerals(page, names, board),
-        "contexts" => write_existing(page, names, board),
-        "show" => match names.termination(words.next()) {
-            Some(termination) => names.write_row(page, board.get(termination)),
-            None => Answer::NoCall,
-        },
-        _ => write_found(page, names, board, verb, *words),
-    }
-}
-
-/// Writes the number that a verb asks for, or whether media is cut or goes.
-fn write_found(
-    page: &mut Page,
-    names: &Names,
-    board: &Board,
-    verb: &str,
     words: Words<'_>,
 ) -> Answer {
-    let (mut number, mut media) = (words, words);
-    match number_of(names, board, verb, &mut number) {
-        Some(number) => {
-            page.number(number);
-            Answer::Told
-        }
-        None => match asked(names, board, verb, &mut media) {
-            Some(answer) => page.yes_or_no(answer),
-            None => Answer::NoCall,
-        },
+    let mut words = words;
+    let (first, second) = (words.next(), words.next());
+    match (verb, names.termination(first)) {
+        ("lines", _) => write_all(page, names, &board.lines()),
+        ("ephemerals", _) => write_all(page, names, &board.ephemerals()),
+        ("contexts", _) => write_all(page, names, &board.context_numbers()),
+        ("show", Some(termination)) => names.write_row(page, board.get(termination)),
+        _ => write_found(
+            page,
+            asked(names, board, verb, first, second),
+            number_of(names, board, verb, first, second),
+        ),
     }
 }

@@ -79,26 +79,6 @@ impl Boards {
             Err(_) => Answer::NoMemory,
         }
     }
-
-    /// A command, or what is read of a board.
-    fn command_or_read(&mut self, page: &mut Page, verb: &str, words: Words<'_>) -> Answer {
-        let (mut command, mut read) = (words, words);
-        match items::item(&self.names, verb, &mut command) {
-            Some(item) => self.command(page, &item),
-            None => board_reads::write_read(page, &self.names, &self.board, verb, &mut read),
-        }
-    }
-
-    /// Does what is done to all of a board, where the verb is of that.
-    fn is_of_all(&mut self, verb: &str) -> bool {
-        match verb {
-            "settle" => self.board.settle(),
-            "reset" => self.board.reset(),
-            "swap" => mem::swap(&mut self.board, &mut self.kept),
-            _ => return false,
-        }
-        true
-    }
 }
 
 impl Layer for Boards {
@@ -111,15 +91,24 @@ impl Layer for Boards {
     fn answer(&mut self, page: &mut Page, words: Words<'_>) -> Answer {
         let mut words = words;
         let verb = words.next();
-        match verb {
-            "new" => self.anew(page, &mut words),
-            "copy" => self.keep(page),
-            _ => {
-                if self.is_of_all(verb) {
-                    return page.done();
-                }
-                self.command_or_read(page, verb, words)
+        let mut ahead = words;
+        match (verb, items::item(&self.names, verb, &mut ahead)) {
+            (_, Some(item)) => self.command(page, &item),
+            ("new", _) => self.anew(page, &mut words),
+            ("copy", _) => self.keep(page),
+            ("settle", _) => {
+                self.board.settle();
+                page.done()
             }
+            ("reset", _) => {
+                self.board.reset();
+                page.done()
+            }
+            ("swap", _) => {
+                mem::swap(&mut self.board, &mut self.kept);
+                page.done()
+            }
+            _ => board_reads::write_read(page, &self.names, &self.board, verb, words),
         }
     }
 }

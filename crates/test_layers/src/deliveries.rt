@@ -1,8 +1,8 @@
 //! Messages that a row writes out, as they may reach a call.
 use crate::pages::Answer;
-use crate::words::Words;
+use crate::words::{Words, number, number_behind};
 use contexts::{Board, Done};
-use line_events::{EventList, LineSet, ListItem, Note};
+use line_events::{EventList, LineFault, LineSet, Note};
 use mg_model::failures::Failure;
 use mg_model::items::{Added, Item, Settings};
 use mg_model::line_events::Hook;
@@ -47,37 +47,24 @@ pub(crate) const NOBODY: Party = Party {
 
 /// The call and the lines of a row that opens it, as `7 on 11 12`.
 pub(crate) fn read_party(words: &mut Words<'_>) -> Option<Party> {
-    let call = words.number()?;
+    let call = words.number();
     let _on = words.next();
-    Some(Party {
-        call: CallNo(call),
-        lines: [LineNo(words.number()?), LineNo(words.number()?)],
-    })
+    match (call, words.number(), words.number()) {
+        (Some(call), Some(first), Some(second)) => Some(Party {
+            call: CallNo(call),
+            lines: [LineNo(first), LineNo(second)],
+        }),
+        _ => None,
+    }
 }
 
 /// The line of the gateway that a row names by its name in the script.
-pub(crate) fn line_of(script: &Script, party: &Party, name: &str) -> Option<LineNo> {
+fn line_of(script: &Script, party: &Party, name: &str) -> Option<LineNo> {
     let [first, second] = party.lines;
-    match script.line(name)?.index() {
-        0 => Some(first),
-        _ => Some(second),
-    }
-}
-
-/// An Events descriptor of one item.
-fn list_of(alloc: Global, item: ListItem) -> Result<EventList, AllocError> {
-    match Vec::from_array(alloc, [item]) {
-        Ok(items) => Ok(EventList::new(items)),
-        Err(_) => Err(AllocError),
-    }
-}
-
-/// The descriptor by which something is raised.
-fn list(alloc: Global, kind: Kind) -> Result<EventList, AllocError> {
-    match kind {
-        Kind::On => list_of(alloc, EventItem::OnHook(Strict::Exact)),
-        Kind::Fl => list_of(alloc, EventItem::Flash),
-        _ => list_of(alloc, EventItem::OffHook(Strict::Exact)),
+    match script.line(name) {
+        Some(line) if line.index() == 0 => Some(first),
+        Some(_) => Some(second),
+        None => None,
     }
 }
 
@@ -88,69 +75,53 @@ fn raise(
     kind: Kind,
     list: &EventList,
     request: u32,
-) -> Result<Note, Answer> {
-    if lines.add_line(line).is_err() {
-        return Err(Answer::NoMemory);
-    }
+) -> Result<Option<Note>, LineFault> {
+    lines.add_line(line)?;
     if kind != Kind::Of {
-        let _off = lines.hook(line, Hook::Off);
+        lines.hook(line, Hook::Off)?;
     }
-    if lines.arm(line, list, request).is_err() {
-        return Err(Answer::NoMemory);
-    }
-    let raised = match kind {
+    lines.arm(line, list, request)?;
+    match kind {
         Kind::On => lines.hook(line, Hook::On),
         Kind::Fl => lines.flash(line),
         _ => lines.hook(line, Hook::Off),
+    }
+}
+
+/// What happens on a line that is armed for each thing that may, with this RequestID.
+fn raised(alloc: Global, line: LineNo, kind: Kind, request: u32) -> Result<Note, Answer> {
+    let on = EventItem::OnHook(Strict::Exact);
+    let off = EventItem::OffHook(Strict::Exact);
+    let Ok(items) = Vec::from_array(alloc, [on, off, EventItem::Flash]) else {
+        return Err(Answer::NoMemory);
     };
-    match raised {
+    let mut lines = LineSet::new(alloc);
+    match raise(&mut lines, line, kind, &EventList::new(items), request) {
         Ok(Some(note)) => Ok(note),
+        Err(LineFault::NoMemory) => Err(Answer::NoMemory),
         _ => Err(Answer::NoCall),
     }
 }
 
-/// What happens on a line that is armed for it, with this RequestID.
-fn raised(alloc: Global, line: LineNo, kind: Kind, request: u32) -> Result<Note, Answer> {
-    match list(alloc, kind) {
-        Ok(list) => {
-            let mut lines = LineSet::new(alloc);
-            raise(&mut lines, line, kind, &list, request)
-        }
-        Err(_) => Err(Answer::NoMemory),
-    }
-}
-
-/// A note as a row writes it: its number, its line, what happened there, the RequestID, and its association.
-type Written = (u32, LineNo, Kind, u32, u32);
-
-/// The words of a note: `1 a.of request 0`, or `1 a.of request 0 in 3`.
-fn note_words(script: &Script, party: &Party, words: &mut Words<'_>) -> Option<Written> {
-    let number = words.number()?;
-    let (name, kind) = words.next().split_once('.')?;
-    let line = line_of(script, party, name)?;
-    let kind = Kind::read(kind)?;
-    let _request = words.next();
-    let request = words.number()?;
-    let association = match words.next() {
-        "in" => words.number()?,
-        _ => 1,
-    };
-    Some((number, line, kind, request, association))
-}
-
-/// A note of a call.
+/// A note as a row writes it: `1 a.of request 0`, or `1 a.of request 0 in 3`.
 fn note(
     alloc: Global,
     script: &Script,
     party: &Party,
     words: &mut Words<'_>,
 ) -> Result<Delivered, Answer> {
-    let Some((number, line, kind, request, of)) = note_words(script, party, words) else {
+    let number = words.number();
+    let line = line_of(script, party, words.part("."));
+    let kind = Kind::read(words.next());
+    let _request = words.next();
+    let (Some(number), Some(line), Some(kind), Some(request)) = (number, line, kind, words.number())
+    else {
         return Err(Answer::NoCall);
     };
+    let _in = words.next();
     let id = MessageId {
         call: party.call,
-        association: Assoc(u64::from(of)),
+        association: Assoc(u64::from(words.number().unwrap_or(1))),
         number,
     };
     match raised(alloc, line, kind, request) {
@@ -159,56 +130,18 @@ fn note(
     }
 }
 
-/// A reply as a row writes it.
-#[derive(Clone, Copy)]
-struct Replied {
-    number: u32,
-    association: u32,
-    /// Whether the first command created a context.
-    has_context: bool,
-    failure: Option<Failure>,
-}
-
 /// The failure of a reply: a code, and the place of its command, as `500 at 0`.
-fn failed(code: &str, words: &mut Words<'_>) -> Option<Failure> {
-    let code = Code::read(code.parse::<u16>().ok()?)?;
-    let _at = words.next();
-    let place = words.number()? as usize;
-    Some(Failure { place, code })
-}
-
-/// What stands behind `with`: `a context`, a failure, or `a context and` a failure.
-fn with(replied: Replied, words: &mut Words<'_>) -> Option<Replied> {
-    let mut replied = replied;
-    let word = words.next();
-    if word != "a" {
-        replied.failure = Some(failed(word, words)?);
-        return Some(replied);
-    }
-    let _context = words.next();
-    replied.has_context = true;
-    if words.next() == "and" {
-        let code = words.next();
-        replied.failure = Some(failed(code, words)?);
-    }
-    Some(replied)
-}
-
-/// The words of a reply: `1`, `1 in 3`, `1 with a context and 500 at 1`.
-fn reply_words(words: &mut Words<'_>) -> Option<Replied> {
-    let mut replied = Replied {
-        number: words.number()?,
-        association: 1,
-        has_context: false,
-        failure: None,
+fn failed(words: &mut Words<'_>) -> Option<Failure> {
+    let code = match words.number() {
+        Some(number) => Code::read(u16::try_from(number).unwrap_or(0)),
+        None => None,
     };
-    match words.next() {
-        "" => Some(replied),
-        "in" => {
-            replied.association = words.number()?;
-            Some(replied)
-        }
-        "with" => with(replied, words),
+    let _at = words.next();
+    match (code, words.number()) {
+        (Some(code), Some(place)) => Some(Failure {
+            place: place as usize,
+            code,
+        }),
         _ => None,
     }
 }
@@ -216,7 +149,6 @@ fn reply_words(words: &mut Words<'_>) -> Option<Replied> {
 /// The result of an Add of the first line to a new context, on a board with the lines of the call.
 fn added(alloc: Global, party: &Party) -> Result<Done, AllocError> {
     let [first, _] = party.lines;
-    let mut board = Board::new(alloc, &party.lines)?;
     let add = Item::Add {
         context: ContextId::CHOOSE,
         added: Added::Line(first),
@@ -225,6 +157,7 @@ fn added(alloc: Global, party: &Party) -> Result<Done, AllocError> {
             remote: None,
         },
     };
+    let mut board = Board::new(alloc, &party.lines)?;
     match board.exec(&add) {
         Ok(done) => Ok(done),
         Err(_) => Err(AllocError),
@@ -233,27 +166,34 @@ fn added(alloc: Global, party: &Party) -> Result<Done, AllocError> {
 
 /// The results of a reply whose first command created a context, or of one with none.
 fn results(alloc: Global, party: &Party, has_context: bool) -> Result<Vec<Done>, AllocError> {
-    if !has_context {
-        return Ok(Vec::new(alloc));
+    let mut found = Vec::new(alloc);
+    if has_context {
+        found.push(added(alloc, party)?)?;
     }
-    match Vec::from_array(alloc, [added(alloc, party)?]) {
-        Ok(results) => Ok(results),
-        Err(_) => Err(AllocError),
-    }
+    Ok(found)
 }
 
-/// A reply to a request of a call.
+/// A reply to a request of a call: `1`, `1 in 3`, `1 with a context`, `1 with 500 at 1`, `1 with a context and 500 at 1`.
 fn reply(alloc: Global, party: &Party, words: &mut Words<'_>) -> Result<Delivered, Answer> {
-    let Some(replied) = reply_words(words) else {
+    let Some(number) = words.number() else {
         return Err(Answer::NoCall);
     };
+    let association = number_behind(words.rest(), "in ").unwrap_or(1);
     let id = MessageId {
         call: party.call,
-        association: Assoc(u64::from(replied.association)),
-        number: replied.number,
+        association: Assoc(u64::from(association)),
+        number,
     };
-    match results(alloc, party, replied.has_context) {
-        Ok(results) => Ok(Delivered::Reply(Reply::new(id, results, replied.failure))),
+    let has_context = words.rest().starts_with("with a context");
+    let failure = match words
+        .rest()
+        .split_once(if has_context { "and " } else { "with " })
+    {
+        Some((_, failure)) => failed(&mut Words::of(failure)),
+        None => None,
+    };
+    match results(alloc, party, has_context) {
+        Ok(results) => Ok(Delivered::Reply(Reply::new(id, results, failure))),
         Err(_) => Err(Answer::NoMemory),
     }
 }
@@ -265,15 +205,12 @@ pub(crate) fn read(
     party: &Party,
     words: &mut Words<'_>,
 ) -> Result<Delivered, Answer> {
-    match words.next() {
-        "pass" => Ok(Delivered::Pass),
-        "timer" => Ok(Delivered::Timer),
-        "hear" => match words.number() {
-            Some(of) => Ok(Delivered::Hear(Assoc(u64::from(of)))),
-            None => Err(Answer::NoCall),
-        },
-        "note" => note(alloc, script, party, words),
-        "reply" => reply(alloc, party, words),
+    match (words.next(), number(words.rest())) {
+        ("pass", _) => Ok(Delivered::Pass),
+        ("timer", _) => Ok(Delivered::Timer),
+        ("hear", Some(of)) => Ok(Delivered::Hear(Assoc(u64::from(of)))),
+        ("note", _) => note(alloc, script, party, words),
+        ("reply", _) => reply(alloc, party, words),
         _ => Err(Answer::NoCall),
     }
 }

@@ -11,6 +11,9 @@ use mg_names::strictness::Strict;
 use mg_names::symbols::Symbol;
 use std::alloc::Global;
 
+/// The most items of an Events descriptor that a row writes.
+const MOST: usize = 16;
+
 /// The item of package al that a word names; `:state` is `strict=state`, and `strict=exact` where it isn't there.
 fn hook_item(word: &str) -> Option<ListItem> {
     match word {
@@ -25,11 +28,11 @@ fn hook_item(word: &str) -> Option<ListItem> {
 
 /// The item that a word names.
 fn item(alloc: Global, word: &str) -> Result<ListItem, Answer> {
-    if let Some(item) = hook_item(word) {
-        return Ok(item);
-    }
     let Some(text) = word.strip_prefix("dd/ce:") else {
-        return Err(Answer::NoCall);
+        return match hook_item(word) {
+            Some(item) => Ok(item),
+            None => Err(Answer::NoCall),
+        };
     };
     match DigitMap::parse(alloc, text) {
         Ok(map) => Ok(EventItem::Digits(map)),
@@ -49,23 +52,24 @@ fn add_item(alloc: Global, items: &mut Vec<ListItem>, word: &str) -> Answer {
     }
 }
 
-/// Adds the items that a text names; `none` for an empty descriptor.
+/// Adds the items that a text names.
 fn add_items(alloc: Global, items: &mut Vec<ListItem>, text: &str) -> Answer {
-    if text == "none" {
-        return Answer::Told;
-    }
-    for word in text.split('+') {
-        let answer = add_item(alloc, items, word);
-        if answer != Answer::Told {
+    let mut words = Words::of(text);
+    for _ in 0..MOST {
+        let answer = add_item(alloc, items, words.part("+"));
+        if answer != Answer::Told || words.rest().is_empty() {
             return answer;
         }
     }
-    Answer::Told
+    Answer::NoCall
 }
 
-/// The Events descriptor that a text names.
+/// The Events descriptor that a text names; `none` is an empty one.
 pub(crate) fn read(alloc: Global, text: &str) -> Result<EventList, Answer> {
     let mut items = Vec::new(alloc);
+    if text == "none" {
+        return Ok(EventList::new(items));
+    }
     match add_items(alloc, &mut items, text) {
         Answer::Told => Ok(EventList::new(items)),
         answer => Err(answer),
@@ -74,49 +78,30 @@ pub(crate) fn read(alloc: Global, text: &str) -> Result<EventList, Answer> {
 
 /// What happens on a line, by the verb of a row and the words behind its line.
 pub(crate) fn event(verb: &str, words: &mut Words<'_>) -> Option<LineEvent> {
-    match verb {
-        "off" => Some(LineEvent::Hook(Hook::Off)),
-        "on" => Some(LineEvent::Hook(Hook::On)),
-        "flash" => Some(LineEvent::Flash),
-        "pause" => Some(LineEvent::Pause),
-        _ => worded_event(verb, words.next()),
-    }
-}
-
-/// A symbol that is dialled, or a signal that ends.
-fn worded_event(verb: &str, word: &str) -> Option<LineEvent> {
-    match verb {
-        "digit" => match Symbol::read(word) {
-            Some(symbol) => Some(LineEvent::Digit(symbol)),
-            None => None,
-        },
-        "end" => match Signal::read(word) {
-            Some(signal) => Some(LineEvent::SignalEnd(signal)),
-            None => None,
-        },
+    let word = words.next();
+    match (verb, Symbol::read(word), Signal::read(word)) {
+        ("off", _, _) => Some(LineEvent::Hook(Hook::Off)),
+        ("on", _, _) => Some(LineEvent::Hook(Hook::On)),
+        ("flash", _, _) => Some(LineEvent::Flash),
+        ("pause", _, _) => Some(LineEvent::Pause),
+        ("digit", Some(symbol), _) => Some(LineEvent::Digit(symbol)),
+        ("end", _, Some(signal)) => Some(LineEvent::SignalEnd(signal)),
         _ => None,
     }
 }
 
-/// Writes how a digit map was completed, and by what (Annex E.6).
-pub(crate) fn write_method(page: &mut Page, method: Method, symbols: &[Symbol]) {
-    page.say(match method {
-        Method::Unambiguous => "Meth=UM ds=",
-        Method::Full => "Meth=FM ds=",
-        Method::Partial => "Meth=PM ds=",
-    });
-    for symbol in symbols {
-        page.say(symbol.text());
-    }
-}
-
-/// Writes what a note reports.
+/// Writes what a note reports, with how a digit map was completed, and by what (Annex E.6).
 pub(crate) fn write_note(page: &mut Page, note: &Note) {
     page.say(note.kind().text());
     page.numbered(", RequestID ", u64::from(note.request()));
-    if let Some(method) = note.method() {
-        page.say(", ");
-        write_method(page, method, note.symbols().as_slice());
+    page.say(match note.method() {
+        Some(Method::Unambiguous) => ", Meth=UM ds=",
+        Some(Method::Full) => ", Meth=FM ds=",
+        Some(Method::Partial) => ", Meth=PM ds=",
+        None => return,
+    });
+    for symbol in note.symbols().as_slice() {
+        page.say(symbol.text());
     }
 }
 

@@ -1,11 +1,12 @@
 //! The layer `gateway`: a gateway with its calls, requests and events that reach it, and restarts.
-use crate::names::{self, NO_NAMES, Names};
+use crate::names::{self, NO_NAMES, Names, write_all, write_names};
 use crate::pages::{Answer, Page};
 use crate::sheets::{End, Layer, Sheet};
-use crate::words::Words;
-use crate::{board_reads, board_seen, commands, events, replies, results};
+use crate::words::{Words, number};
+use crate::{board_reads, board_seen, commands, events, replies};
 use gateway::{Answer as Executed, BeginFault, Gateway, OpenFault, SentNote};
 use mg_model::failures::ChosenRefusal;
+use mg_model::line_events::LineEvent;
 use mg_names::identifiers::{Assoc, CallNo, LineNo};
 use requests::{MessageId, Request, RequestCommand};
 use std::alloc::Global;
@@ -68,20 +69,6 @@ fn write_answer(page: &mut Page, names: &mut Names, id: MessageId, answer: &Exec
     Answer::Told
 }
 
-fn write_calls(page: &mut Page, calls: &[CallNo]) {
-    for call in calls {
-        page.numbered(" ", u64::from(call.0));
-    }
-}
-
-/// Writes how many calls there are, and their numbers.
-fn write_all_calls(page: &mut Page, calls: &[CallNo]) -> Answer {
-    page.number(calls.len() as u64);
-    page.say(":");
-    write_calls(page, calls);
-    Answer::Told
-}
-
 fn write_call(page: &mut Page, call: Option<CallNo>) -> Answer {
     match call {
         Some(call) => page.numbered("call ", u64::from(call.0)),
@@ -120,7 +107,7 @@ fn show_gateway(page: &mut Page, gateway: &Gateway) {
         gateway.board().ephemerals(),
     ) {
         (Ok(calls), Ok(lines), Ok(ephemerals)) => {
-            write_calls(page, calls.as_slice());
+            write_names(page, &NO_NAMES, calls.as_slice());
             show_lines(page, gateway, lines.as_slice());
             show_ephemerals(page, gateway, ephemerals.as_slice());
         }
@@ -176,18 +163,20 @@ impl Gateways {
     /// What reaches the gateway beside the commands: `CALL NUMBER of=CALL association=A refuse=PLACE/CODE`, of the call and the association of the gateway
     /// where none is named.
     fn head(&self, words: &mut Words<'_>) -> Option<Head> {
-        let (reached, number) = (words.number()?, words.number()?);
-        let named = words.number_of("of").unwrap_or(reached);
-        let association = match words.number_of("association") {
+        let (Some(reached), Some(message)) = (words.number(), words.number()) else {
+            return None;
+        };
+        let call = number(words.value_of("of=")).unwrap_or(reached);
+        let association = match number(words.value_of("association=")) {
             Some(number) => Assoc(u64::from(number)),
             None => self.gateway.association(),
         };
         Some(Head {
             reached: CallNo(reached),
             id: MessageId {
-                call: CallNo(named),
+                call: CallNo(call),
                 association,
-                number,
+                number: message,
             },
             chosen: commands::chosen(words),
         })
@@ -213,11 +202,7 @@ impl Gateways {
     }
 
     /// Something happens on a line.
-    fn happen(&mut self, page: &mut Page, verb: &str, words: &mut Words<'_>) -> Answer {
-        let line = names::line(words.next());
-        let (Some(line), Some(event)) = (line, events::event(verb, words)) else {
-            return Answer::NoCall;
-        };
+    fn happen(&mut self, page: &mut Page, line: LineNo, event: LineEvent) -> Answer {
         match self.gateway.happen(line, event) {
             Ok(Some(note)) => return replies::write_note(page, &note),
             Ok(None) => page.say("no note"),
@@ -234,41 +219,27 @@ impl Gateways {
         Answer::Told
     }
 
-    /// Writes which calls are open.
-    fn write_open(&self, page: &mut Page) -> Answer {
-        match self.gateway.calls() {
-            Ok(found) => write_all_calls(page, found.as_slice()),
-            Err(_) => Answer::NoMemory,
-        }
-    }
-
-    /// Writes which lines there are.
-    fn write_lines(&self, page: &mut Page) -> Answer {
-        match self.gateway.lines() {
-            Ok(found) => results::write_all_lines(page, found.as_slice()),
-            Err(_) => Answer::NoMemory,
-        }
-    }
-
-    /// Writes which call holds a line or created an ephemeral, or the row of a line.
-    fn write_of(&self, page: &mut Page, verb: &str, word: &str) -> Answer {
+    /// Writes what is read of the gateway, of a line, a call or an ephemeral of it, or of its board.
+    fn write_read(&self, page: &mut Page, verb: &str, words: Words<'_>) -> Answer {
+        let mut ahead = words;
+        let word = ahead.next();
         match (verb, names::line(word), self.names.ephemeral(word)) {
+            ("calls", _, _) => write_all(page, &self.names, &self.gateway.calls()),
+            ("lines", _, _) => write_all(page, &self.names, &self.gateway.lines()),
             ("holder", Some(line), _) => write_call(page, self.gateway.holder(line)),
             ("line", Some(line), _) => events::write_line(page, self.gateway.line(line)),
             ("creator", _, Some(ephemeral)) => write_call(page, self.gateway.creator(ephemeral)),
-            _ => Answer::NoCall,
+            _ => board_reads::write_read(page, &self.names, self.gateway.board(), verb, words),
         }
     }
 
-    /// Writes what is read of a line or an ephemeral of the gateway, or of its board.
-    fn write_of_one(&self, page: &mut Page, verb: &str, words: Words<'_>) -> Answer {
-        let (mut one, mut read) = (words, words);
-        match self.write_of(page, verb, one.next()) {
-            Answer::NoCall => {
-                let board = self.gateway.board();
-                board_reads::write_read(page, &self.names, board, verb, &mut read)
-            }
-            answer => answer,
+    /// Something happens on a line, or what is read of the gateway.
+    fn happen_or_read(&mut self, page: &mut Page, verb: &str, words: Words<'_>) -> Answer {
+        let mut ahead = words;
+        let line = names::line(ahead.next());
+        match (line, events::event(verb, &mut ahead)) {
+            (Some(line), Some(event)) => self.happen(page, line, event),
+            _ => self.write_read(page, verb, words),
         }
     }
 
@@ -277,29 +248,6 @@ impl Gateways {
         match call {
             Some(call) => page.yes_or_no(self.gateway.is_open(CallNo(call))),
             None => Answer::NoCall,
-        }
-    }
-
-    /// Writes what is read of the gateway.
-    fn write_read(&self, page: &mut Page, verb: &str, words: &mut Words<'_>) -> Answer {
-        match verb {
-            "association" => {
-                page.number(self.gateway.association().0);
-                Answer::Told
-            }
-            "open?" => self.write_is_open(page, words.number()),
-            "calls" => self.write_open(page),
-            "lines" => self.write_lines(page),
-            _ => self.write_of_one(page, verb, *words),
-        }
-    }
-
-    /// Something happens on a line, or what is read of the gateway.
-    fn happen_or_read(&mut self, page: &mut Page, verb: &str, words: Words<'_>) -> Answer {
-        let (mut happening, mut read) = (words, words);
-        match self.happen(page, verb, &mut happening) {
-            Answer::NoCall => self.write_read(page, verb, &mut read),
-            answer => answer,
         }
     }
 }
@@ -320,6 +268,11 @@ impl Layer for Gateways {
             "begin" => self.begin(page, &mut words),
             "execute" => self.execute(page, &mut words),
             "restart" => self.restart(page),
+            "open?" => self.write_is_open(page, words.number()),
+            "association" => {
+                page.number(self.gateway.association().0);
+                Answer::Told
+            }
             _ => self.happen_or_read(page, verb, words),
         }
     }

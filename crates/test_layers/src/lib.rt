@@ -1,10 +1,14 @@
 //! Rows of layers (`tests/rows`): of the gateway's, terminations, boards, lines with their digit maps, requests and gateways, and of agents above them. The call
-//! of each row is made, and the row stands on a sheet with its answer; `test_rows` reads the rows and writes the sheet. No part of the product. It promises
-//! nothing; what it is proved to be is safe. The proof of a function costs by what it owns at each of its exits: so what is written goes to a page that notes
-//! itself that it had no room, and few functions own anything.
+//! of each row is made, and the row stands on a sheet with its answer; `test_rows` reads the rows and writes the sheet. Beside them calls of a layer, as many as
+//! `tools/bench` asks for (`benches`). No part of the product. It promises nothing; what it is proved to be is safe. The proof of a function costs by what it
+//! owns at each of its exits: so what is written goes to a page that notes itself that it had no room, and few functions own anything.
 #![tactic(auto)]
 
 mod agents;
+mod bench_boards;
+mod bench_gateways;
+mod bench_notes;
+pub mod benches;
 mod board_reads;
 mod board_seen;
 mod boards;

@@ -101,28 +101,6 @@ impl Lines {
         }
     }
 
-    /// A Signals descriptor.
-    fn signals(&mut self, page: &mut Page, line: LineNo, text: &str) -> Answer {
-        match signals::read(text) {
-            Some(set) => write_did(page, self.lines.signal(line, set)),
-            None => Answer::NoCall,
-        }
-    }
-
-    /// Something happens on a line.
-    fn happen(
-        &mut self,
-        page: &mut Page,
-        verb: &str,
-        line: LineNo,
-        words: &mut Words<'_>,
-    ) -> Answer {
-        match events::event(verb, words) {
-            Some(event) => write_noted(page, &happen(&mut self.lines, line, event)),
-            None => Answer::NoCall,
-        }
-    }
-
     /// What is done to a line, or read of it.
     fn of_line(
         &mut self,
@@ -131,13 +109,17 @@ impl Lines {
         line: LineNo,
         words: &mut Words<'_>,
     ) -> Answer {
-        match verb {
-            "line" => write_did(page, self.lines.add_line(line)),
-            "events" => self.events(page, line, words),
-            "signals" => self.signals(page, line, words.next()),
-            "clear" => write_did(page, self.lines.clear(line)),
-            "show" => events::write_line(page, self.lines.row(line)),
-            _ => self.happen(page, verb, line, words),
+        match (
+            verb,
+            signals::read(words.rest()),
+            events::event(verb, words),
+        ) {
+            ("line", _, _) => write_did(page, self.lines.add_line(line)),
+            ("signals", Some(set), _) => write_did(page, self.lines.signal(line, set)),
+            ("clear", _, _) => write_did(page, self.lines.clear(line)),
+            ("show", _, _) => events::write_line(page, self.lines.row(line)),
+            (_, _, Some(event)) => write_noted(page, &happen(&mut self.lines, line, event)),
+            _ => Answer::NoCall,
         }
     }
 
@@ -186,6 +168,7 @@ impl Layer for Lines {
             return self.map(page, words.rest());
         }
         match names::line(words.next()) {
+            Some(line) if verb == "events" => self.events(page, line, &mut words),
             Some(line) => self.of_line(page, verb, line, &mut words),
             None => self.of_all(page, verb),
         }

@@ -2,15 +2,19 @@
 //! ephemeral that was given, `l/1` for line 1, `5` and `e/5` for the context and the ephemeral of that very number.
 use crate::given::{Given, NOTHING_GIVEN};
 use crate::pages::{Answer, Page};
-use crate::words::{number, number_behind};
+use crate::words::{Words, number, number_behind};
 use mg_model::rows::Row;
-use mg_names::identifiers::{ContextId, LineNo, TermId};
+use mg_names::identifiers::{CallNo, ContextId, LineNo, TermId};
+use std::alloc::AllocError;
+
+/// The most lines that a row names.
+const MOST_LINES: usize = 32;
 
 /// The contexts and ephemerals that were given.
 #[derive(Clone, Copy)]
 pub(crate) struct Names {
-    contexts: Given,
-    ephemerals: Given,
+    pub(crate) contexts: Given,
+    pub(crate) ephemerals: Given,
 }
 
 /// Nothing was given.
@@ -27,25 +31,17 @@ pub(crate) fn line(word: &str) -> Option<LineNo> {
     }
 }
 
-/// The number that a word such as `c2` names: that at a place of what was given.
-fn given(given: &Given, word: &str, sign: &str) -> Option<u32> {
-    match number_behind(word, sign) {
-        Some(place) => given.number(place),
-        None => None,
+/// The context that a sign names.
+fn sign(word: &str) -> Option<ContextId> {
+    match word {
+        "$" => Some(ContextId::CHOOSE),
+        "-" => Some(ContextId::NULL),
+        "*" => Some(ContextId::ALL),
+        _ => None,
     }
 }
 
 impl Names {
-    /// A context is given.
-    pub(crate) fn give_context(&mut self, context: ContextId) {
-        self.contexts.give(context.0);
-    }
-
-    /// An ephemeral is given.
-    pub(crate) fn give_ephemeral(&mut self, ephemeral: u32) {
-        self.ephemerals.give(ephemeral);
-    }
-
     /// Tells the numbers of contexts and of ephemerals that were given.
     pub(crate) fn show(&self, page: &mut Page) {
         page.say("contexts");
@@ -56,14 +52,11 @@ impl Names {
 
     /// The context that a word names.
     pub(crate) fn context(&self, word: &str) -> Option<ContextId> {
-        match word {
-            "$" => Some(ContextId::CHOOSE),
-            "-" => Some(ContextId::NULL),
-            "*" => Some(ContextId::ALL),
-            _ => match given(&self.contexts, word, "c") {
-                Some(context) => Some(ContextId(context)),
-                None => Some(ContextId(number(word)?)),
-            },
+        match (sign(word), self.contexts.named(word, "c"), number(word)) {
+            (Some(context), _, _) => Some(context),
+            (_, Some(known), _) => Some(ContextId(known)),
+            (_, _, Some(known)) => Some(ContextId(known)),
+            _ => None,
         }
     }
 
@@ -71,23 +64,16 @@ impl Names {
     pub(crate) fn ephemeral(&self, word: &str) -> Option<u32> {
         match number_behind(word, "e/") {
             Some(number) => Some(number),
-            None => given(&self.ephemerals, word, "e"),
+            None => self.ephemerals.named(word, "e"),
         }
     }
 
     /// The termination that a word names.
     pub(crate) fn termination(&self, word: &str) -> Option<TermId> {
-        match line(word) {
-            Some(line) => Some(TermId::Line(line)),
-            None => Some(TermId::Eph(self.ephemeral(word)?)),
-        }
-    }
-
-    /// The number of a context or an ephemeral that was given.
-    pub(crate) fn number(&self, word: &str) -> Option<u32> {
-        match self.ephemeral(word) {
-            Some(number) => Some(number),
-            None => Some(self.context(word)?.0),
+        match (line(word), self.ephemeral(word)) {
+            (Some(line), _) => Some(TermId::Line(line)),
+            (_, Some(number)) => Some(TermId::Eph(number)),
+            _ => None,
         }
     }
 
@@ -126,11 +112,65 @@ impl Names {
     }
 }
 
+/// What rows list by names.
+pub(crate) trait Named: Copy {
+    /// Writes its name.
+    fn write(self, page: &mut Page, names: &Names);
+}
+
+impl Named for LineNo {
+    fn write(self, page: &mut Page, _names: &Names) {
+        page.numbered("l/", u64::from(self.0));
+    }
+}
+
+impl Named for u32 {
+    fn write(self, page: &mut Page, names: &Names) {
+        names.write_ephemeral(page, self);
+    }
+}
+
+impl Named for ContextId {
+    fn write(self, page: &mut Page, names: &Names) {
+        names.write_context(page, self);
+    }
+}
+
+impl Named for CallNo {
+    fn write(self, page: &mut Page, _names: &Names) {
+        page.number(u64::from(self.0));
+    }
+}
+
+/// Writes names, each behind a blank.
+pub(crate) fn write_names<T: Named>(page: &mut Page, names: &Names, found: &[T]) {
+    for named in found {
+        page.say(" ");
+        named.write(page, names);
+    }
+}
+
+/// Writes how many there are, and their names, where there was memory to find them.
+pub(crate) fn write_all<T: Named>(
+    page: &mut Page,
+    names: &Names,
+    found: &Result<Vec<T>, AllocError>,
+) -> Answer {
+    let Ok(found) = found else {
+        return Answer::NoMemory;
+    };
+    page.number(found.len() as u64);
+    page.say(":");
+    write_names(page, names, found.as_slice());
+    Answer::Told
+}
+
 /// Reads the lines that the words of a text name.
 pub(crate) fn read_lines(lines: &mut Vec<LineNo>, text: &str) -> Answer {
     lines.clear();
-    for word in text.split(' ') {
-        if let Some(line) = line(word) {
+    let mut words = Words::of(text);
+    for _ in 0..MOST_LINES {
+        if let Some(line) = line(words.next()) {
             if lines.push(line).is_err() {
                 return Answer::NoMemory;
             }

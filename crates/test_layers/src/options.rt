@@ -1,7 +1,7 @@
 //! What a command sets on its termination, as words such as `mode=SendOnly remote=e1 events=al/on:state+dd/ce:12|123 signals=cg/dt`.
 use crate::names::Names;
 use crate::signals;
-use crate::words::number_behind;
+use crate::words::{Words, number_behind};
 use mg_model::items::{RemoteSetting, Settings};
 use mg_model::line_events::SignalSet;
 use mg_model::references::{EphemeralRef, RemoteRef, SettingsRef};
@@ -25,6 +25,9 @@ const NOTHING: Options<'static> = Options {
     signals: None,
 };
 
+/// The most words by which a command sets something.
+const MOST: usize = 8;
+
 /// The place that a word such as `@0` names: that of an earlier command of the request, from 0.
 pub(crate) fn place(word: &str) -> Option<usize> {
     match number_behind(word, "@") {
@@ -35,89 +38,68 @@ pub(crate) fn place(word: &str) -> Option<usize> {
 
 /// The ephemeral that a word names.
 pub(crate) fn ephemeral(names: &Names, word: &str) -> Option<EphemeralRef> {
-    match place(word) {
-        Some(place) => Some(EphemeralRef::MadeAt(place)),
-        None => Some(EphemeralRef::Number(names.ephemeral(word)?)),
+    match (place(word), names.ephemeral(word)) {
+        (Some(place), _) => Some(EphemeralRef::MadeAt(place)),
+        (_, Some(number)) => Some(EphemeralRef::Number(number)),
+        _ => None,
     }
 }
 
 /// The Remote that a word names.
 fn remote(names: &Names, word: &str) -> Option<RemoteRef> {
-    match word {
-        "none" => Some(RemoteRef::Nothing),
-        _ => Some(RemoteRef::To(ephemeral(names, word)?)),
+    match ephemeral(names, word) {
+        Some(ephemeral) => Some(RemoteRef::To(ephemeral)),
+        None if word == "none" => Some(RemoteRef::Nothing),
+        None => None,
     }
 }
 
-/// Settings with what a key with its value sets on the connection model.
-fn with_setting(
-    names: &Names,
-    settings: SettingsRef,
-    key: &str,
-    value: &str,
-) -> Option<SettingsRef> {
+/// Sets what a key with its value sets; whether it sets anything.
+fn sets<'a>(names: &Names, options: &mut Options<'a>, key: &str, value: &'a str) -> bool {
     match key {
-        "mode" => Some(SettingsRef {
-            mode: Some(Mode::read(value)?),
-            ..settings
-        }),
-        "remote" => Some(SettingsRef {
-            remote: Some(remote(names, value)?),
-            ..settings
-        }),
-        _ => None,
+        "mode" => options.settings.mode = Mode::read(value),
+        "remote" => options.settings.remote = remote(names, value),
+        "signals" => options.signals = signals::read(value),
+        _ => options.events = Some(value),
     }
-}
-
-/// Options with what a word such as `mode=SendOnly` sets.
-fn with<'a>(names: &Names, options: Options<'a>, word: &'a str) -> Option<Options<'a>> {
-    let (key, value) = word.split_once('=')?;
     match key {
-        "events" => Some(Options {
-            events: Some(value),
-            ..options
-        }),
-        "signals" => Some(Options {
-            signals: Some(signals::read(value)?),
-            ..options
-        }),
-        _ => Some(Options {
-            settings: with_setting(names, options.settings, key, value)?,
-            ..options
-        }),
+        "mode" => options.settings.mode.is_some(),
+        "remote" => options.settings.remote.is_some(),
+        "signals" => options.signals.is_some(),
+        _ => key == "events",
     }
 }
 
 /// What the words of a text set.
 pub(crate) fn read<'a>(names: &Names, text: &'a str) -> Option<Options<'a>> {
     let mut options = NOTHING;
-    if text.is_empty() {
-        return Some(options);
-    }
-    for word in text.split(' ') {
-        options = with(names, options, word)?;
+    let mut words = Words::of(text);
+    for _ in 0..MOST {
+        if !words.rest().is_empty() {
+            let key = words.part("=");
+            if !sets(names, &mut options, key, words.next()) {
+                return None;
+            }
+        }
     }
     Some(options)
 }
 
-/// A Remote by number.
-fn numbered(remote: RemoteRef) -> Option<RemoteSetting> {
-    match remote {
-        RemoteRef::Nothing => Some(RemoteSetting::Nothing),
-        RemoteRef::To(EphemeralRef::Number(number)) => Some(RemoteSetting::Ephemeral(number)),
-        RemoteRef::To(EphemeralRef::MadeAt(_)) => None,
-    }
-}
-
 /// What the words of a text set on the connection model, by numbers.
 pub(crate) fn settings(names: &Names, text: &str) -> Option<Settings> {
-    let set = read(names, text)?.settings;
-    let remote = match set.remote {
-        Some(remote) => Some(numbered(remote)?),
+    let Some(options) = read(names, text) else {
+        return None;
+    };
+    let remote = match options.settings.remote {
         None => None,
+        Some(RemoteRef::Nothing) => Some(RemoteSetting::Nothing),
+        Some(RemoteRef::To(EphemeralRef::Number(number))) => {
+            Some(RemoteSetting::Ephemeral(number))
+        }
+        Some(RemoteRef::To(EphemeralRef::MadeAt(_))) => return None,
     };
     Some(Settings {
-        mode: set.mode,
+        mode: options.settings.mode,
         remote,
     })
 }

@@ -5,15 +5,10 @@ use crate::{events, results};
 use contexts::Done;
 use requests::{MessageId, Reply, SentNote};
 
-/// What the commands of a request created is given.
-fn give(names: &mut Names, results: &[Done]) {
+/// What each command of a request created is given, and its result is written.
+fn write_results(page: &mut Page, names: &mut Names, results: &[Done]) {
     for done in results {
         results::give(names, done);
-    }
-}
-
-fn write_results(page: &mut Page, names: &Names, results: &[Done]) {
-    for done in results {
         results::write_done(page, names, done);
         page.say(" ; ");
     }
@@ -38,7 +33,6 @@ pub(crate) fn write_reply(
     id: MessageId,
     reply: &Reply,
 ) -> Answer {
-    give(names, reply.results());
     write_other(page, id, reply);
     write_results(page, names, reply.results());
     match reply.failure() {

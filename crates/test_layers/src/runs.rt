@@ -52,15 +52,12 @@ fn write_notes(page: &mut Page, notes: &[LineNote]) {
     }
 }
 
-/// A copy of the reply that says what a request came to, and its notes.
-fn replied(id: MessageId, outcome: Outcome) -> Result<(Reply, Vec<LineNote>), AllocError> {
-    let Outcome {
-        results,
-        failure,
-        notes,
-    } = outcome;
-    let copied = Reply::new(id, results, failure).copy()?;
-    Ok((copied, notes))
+/// Writes that it is done, where there was memory for it.
+fn write_did(page: &mut Page, answer: Result<(), AllocError>) -> Answer {
+    match answer {
+        Ok(()) => page.done(),
+        Err(_) => Answer::NoMemory,
+    }
 }
 
 /// Tells these lines of connections.
@@ -115,7 +112,7 @@ impl Runs {
         }
     }
 
-    /// What a request left stays.
+    /// What a request left stays, and a copy of the reply that says what it came to is written, with its notes.
     fn stay(
         &mut self,
         page: &mut Page,
@@ -123,10 +120,15 @@ impl Runs {
         after: Connections,
         outcome: Outcome,
     ) -> Answer {
-        match replied(id, outcome) {
-            Ok((reply, notes)) => {
+        let Outcome {
+            results,
+            failure,
+            notes,
+        } = outcome;
+        match Reply::new(id, results, failure).copy() {
+            Ok(copied) => {
                 self.connections = after;
-                replies::write_reply(page, &mut self.names, id, &reply);
+                replies::write_reply(page, &mut self.names, id, &copied);
                 write_notes(page, notes.as_slice());
                 Answer::Told
             }
@@ -176,22 +178,6 @@ impl Runs {
         }
     }
 
-    /// A line is opened.
-    fn open_line(&mut self, page: &mut Page, line: LineNo) -> Answer {
-        match self.connections.open_line(line) {
-            Ok(()) => page.done(),
-            Err(_) => Answer::NoMemory,
-        }
-    }
-
-    /// A line is deactivated.
-    fn deactivate(&mut self, page: &mut Page, line: LineNo) -> Answer {
-        match self.connections.deactivate(line) {
-            Ok(()) => page.done(),
-            Err(_) => Answer::NoMemory,
-        }
-    }
-
     /// Writes whether an event on a line raises a note.
     fn write_raises(&self, page: &mut Page, line: LineNo, words: &mut Words<'_>) -> Answer {
         let verb = words.next();
@@ -207,8 +193,8 @@ impl Runs {
             return Answer::NoCall;
         };
         match verb {
-            "open" => self.open_line(page, line),
-            "deactivate" => self.deactivate(page, line),
+            "open" => write_did(page, self.connections.open_line(line)),
+            "deactivate" => write_did(page, self.connections.deactivate(line)),
             "line" => events::write_line(page, self.connections.line(line)),
             "idle" => page.yes_or_no(self.connections.is_idle(line)),
             "there" => page.yes_or_no(self.connections.has_line(line)),
@@ -222,11 +208,11 @@ impl Runs {
 
     /// What is done to a line, or read of it or of the board.
     fn of_line_or_read(&mut self, page: &mut Page, verb: &str, words: Words<'_>) -> Answer {
-        let (mut of_line, mut read) = (words, words);
-        match self.of_line(page, verb, &mut of_line) {
+        let mut ahead = words;
+        match self.of_line(page, verb, &mut ahead) {
             Answer::NoCall => {
                 let board = self.connections.board();
-                board_reads::write_read(page, &self.names, board, verb, &mut read)
+                board_reads::write_read(page, &self.names, board, verb, words)
             }
             answer => answer,
         }

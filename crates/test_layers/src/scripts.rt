@@ -1,18 +1,22 @@
 //! Scripts that stand in files of rows before the row `script`, their lines behind bars.
 use crate::pages::{Answer, Page};
 use crate::sheets::End;
+use crate::words::Words;
 use script_table::Script;
-use scriptreader::{ScriptFault, read_script};
+use scriptreader::ScriptFault;
 use std::alloc::{AllocError, Global};
 use typed_values::Unread;
 
 /// Room for a document, made at once.
 const ROOM: usize = 16_384;
+/// The most lines of a document, with those between.
+const MOST_LINES: usize = 1024;
 
 /// Adds the lines of a document.
-fn add_lines(page: &mut Page, lines: &str) {
-    for line in lines.lines() {
-        if let Some(part) = line.strip_prefix("| ") {
+fn add_lines(page: &mut Page, text: &str) {
+    let mut lines = Words::of(text);
+    for _ in 0..MOST_LINES {
+        if let Some(part) = lines.part("\n").strip_prefix("| ") {
             page.say(part);
             page.say("\n");
         }
@@ -27,16 +31,16 @@ pub fn document(alloc: Global, lines: &str) -> Result<Page, AllocError> {
 }
 
 /// A script that is read, once more where that wanted memory.
-fn read(alloc: Global, bytes: &[u8]) -> Result<Script, Unread<ScriptFault>> {
-    match read_script(alloc, bytes) {
-        Err(Unread::NoMemory) => read_script(alloc, bytes),
+pub fn read_script(alloc: Global, bytes: &[u8]) -> Result<Script, Unread<ScriptFault>> {
+    match scriptreader::read_script(alloc, bytes) {
+        Err(Unread::NoMemory) => scriptreader::read_script(alloc, bytes),
         answer => answer,
     }
 }
 
 /// The script of a document.
 fn of_document(alloc: Global, document: &Page) -> Result<Script, End> {
-    match read(alloc, document.text().as_bytes()) {
+    match read_script(alloc, document.text().as_bytes()) {
         Ok(script) => Ok(script),
         Err(Unread::NoMemory) => Err(End::NoMemory),
         Err(Unread::Fault(_)) => Err(End::Unreadable),

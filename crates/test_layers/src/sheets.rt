@@ -8,6 +8,8 @@ use std::alloc::{AllocError, Global};
 const ROOM: usize = 0x2_0000;
 /// Room for what is told around a call, made at once.
 const ROOM_AROUND: usize = 0x4000;
+/// The most lines of a file.
+const MOST_LINES: usize = 4096;
 
 /// What makes the calls of a layer.
 pub trait Layer {
@@ -124,14 +126,18 @@ impl Sheet {
 
     /// Writes each row of a text with the answer of its call.
     pub fn play<L: Layer>(&mut self, layer: &mut L, rows: &str) -> End {
-        for line in rows.lines() {
-            if let Some(call) = row_in(line) {
+        let mut lines = Words::of(rows);
+        for _ in 0..MOST_LINES {
+            if let Some(call) = row_in(lines.part("\n")) {
                 let end = self.row(layer, call);
                 if end != End::Well {
                     return end;
                 }
             }
+            if lines.rest().is_empty() {
+                return End::Well;
+            }
         }
-        End::Well
+        End::Unreadable
     }
 }

@@ -1,11 +1,14 @@
 //! Signals descriptors, as words such as `cg/dt+al/ri` (H.248.1 section 7.1.11).
 use crate::pages::Page;
+use crate::words::Words;
 use mg_model::line_events::SignalSet;
 use mg_names::signals::Signal;
 
-/// A set with one more signal.
-fn with(set: SignalSet, signal: Signal) -> SignalSet {
-    let mut set = set;
+/// The most signals that a text names.
+const MOST: usize = 8;
+
+/// A set gets one more signal.
+fn add(set: &mut SignalSet, signal: Signal) {
     match signal {
         Signal::Ring => set.ring = true,
         Signal::DialTone => set.dial_tone = true,
@@ -13,17 +16,19 @@ fn with(set: SignalSet, signal: Signal) -> SignalSet {
         Signal::BusyTone => set.busy_tone = true,
         Signal::CongestionTone => set.congestion_tone = true,
     }
-    set
 }
 
 /// The signals that a text names; `none` for an empty descriptor.
 pub(crate) fn read(text: &str) -> Option<SignalSet> {
     let mut set = SignalSet::SILENT;
-    if text == "none" {
-        return Some(set);
-    }
-    for word in text.split('+') {
-        set = with(set, Signal::read(word)?);
+    let mut words = Words::of(if text == "none" { "" } else { text });
+    for _ in 0..MOST {
+        if !words.rest().is_empty() {
+            match Signal::read(words.part("+")) {
+                Some(signal) => add(&mut set, signal),
+                None => return None,
+            }
+        }
     }
     Some(set)
 }

@@ -1,6 +1,6 @@
 //! The layer `terminations`: a table of terminations with the context, the mode and the Remote of each.
 use crate::board_seen::show_row;
-use crate::names::{self, NO_NAMES, Names};
+use crate::names::{self, NO_NAMES, Names, write_all};
 use crate::pages::{Answer, Page};
 use crate::results;
 use crate::sheets::{End, Layer, Sheet};
@@ -26,14 +26,6 @@ fn write_did(page: &mut Page, answer: Result<(), Code>) -> Answer {
     match answer {
         Ok(()) => page.done(),
         Err(code) => results::write_code(page, code),
-    }
-}
-
-/// Writes why no number is given.
-fn write_full(page: &mut Page, fault: CreateFault) -> Answer {
-    match fault {
-        CreateFault::NoMemory => Answer::NoMemory,
-        CreateFault::Full => page.refused(u16::from(fault.number()), fault.name()),
     }
 }
 
@@ -119,26 +111,13 @@ impl Tables {
     fn create(&mut self, page: &mut Page) -> Answer {
         match self.terms.create() {
             Ok(TermId::Eph(number)) => {
-                self.names.give_ephemeral(number);
+                self.names.ephemerals.give(number);
                 self.names.write_ephemeral(page, number);
                 Answer::Told
             }
             Ok(TermId::Line(_)) => Answer::NoCall,
-            Err(fault) => write_full(page, fault),
-        }
-    }
-
-    fn write_lines(&self, page: &mut Page) -> Answer {
-        match self.terms.lines(self.alloc) {
-            Ok(found) => results::write_all_lines(page, found.as_slice()),
-            Err(_) => Answer::NoMemory,
-        }
-    }
-
-    fn write_ephemerals(&self, page: &mut Page) -> Answer {
-        match self.terms.ephemerals(self.alloc) {
-            Ok(found) => results::write_all_ephemerals(page, &self.names, found.as_slice()),
-            Err(_) => Answer::NoMemory,
+            Err(CreateFault::NoMemory) => Answer::NoMemory,
+            Err(fault) => page.refused(u16::from(fault.number()), fault.name()),
         }
     }
 
@@ -190,17 +169,6 @@ impl Tables {
             Err(_) => Answer::NoMemory,
         }
     }
-
-    /// Does what is done to all terminations, where the verb is of that.
-    fn is_of_all(&mut self, verb: &str) -> bool {
-        match verb {
-            "settle" => self.terms.settle(),
-            "reset" => self.terms.reset(),
-            "swap" => mem::swap(&mut self.terms, &mut self.kept),
-            _ => return false,
-        }
-        true
-    }
 }
 
 impl Layer for Tables {
@@ -218,15 +186,22 @@ impl Layer for Tables {
             "line" => self.line(page, words.next()),
             "create" => self.create(page),
             "full" => page.yes_or_no(self.terms.is_full()),
-            "lines" => self.write_lines(page),
-            "ephemerals" => self.write_ephemerals(page),
+            "lines" => write_all(page, &self.names, &self.terms.lines(self.alloc)),
+            "ephemerals" => write_all(page, &self.names, &self.terms.ephemerals(self.alloc)),
             "copy" => self.keep(page),
-            _ => {
-                if self.is_of_all(verb) {
-                    return page.done();
-                }
-                self.of_termination(page, verb, &mut words)
+            "settle" => {
+                self.terms.settle();
+                page.done()
             }
+            "reset" => {
+                self.terms.reset();
+                page.done()
+            }
+            "swap" => {
+                mem::swap(&mut self.terms, &mut self.kept);
+                page.done()
+            }
+            _ => self.of_termination(page, verb, &mut words),
         }
     }
 }

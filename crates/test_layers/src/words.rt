@@ -17,13 +17,13 @@ impl<'a> Words<'a> {
         self.rest
     }
 
-    /// The next word; an empty one where there is none.
-    pub fn next(&mut self) -> &'a str {
+    /// What stands before the next of these signs, or all that is left; it and the sign are read.
+    pub fn part(&mut self, sign: &str) -> &'a str {
         let text = self.rest;
-        match text.split_once(' ') {
-            Some((word, rest)) => {
+        match text.split_once(sign) {
+            Some((part, rest)) => {
                 self.rest = rest;
-                word
+                part
             }
             None => {
                 self.rest = "";
@@ -32,34 +32,33 @@ impl<'a> Words<'a> {
         }
     }
 
+    /// The next word; an empty one where there is none.
+    pub fn next(&mut self) -> &'a str {
+        self.part(" ")
+    }
+
     /// The next word as a number.
     pub fn number(&mut self) -> Option<u32> {
         number(self.next())
     }
 
-    /// The value of the next word, where it is this key with a value, such as `class=3/16`; else no word is read.
-    pub fn value_of(&mut self, key: &str) -> Option<&'a str> {
+    /// The value of the next word, where it is this key with a value, such as `class=3/16`; else no word is read, and the value is empty.
+    pub fn value_of(&mut self, key: &str) -> &'a str {
         let mut ahead = *self;
-        let (found, value) = ahead.next().split_once('=')?;
-        if found != key {
-            return None;
+        let word = ahead.next();
+        match word.strip_prefix(key) {
+            Some(value) => {
+                *self = ahead;
+                value
+            }
+            None => "",
         }
-        *self = ahead;
-        Some(value)
-    }
-
-    /// The number of the next word, where it is this key with a number; else no word is read.
-    pub fn number_of(&mut self, key: &str) -> Option<u32> {
-        number(self.value_of(key)?)
     }
 
     /// The class of numbers that comes next, such as `class=3/16`: those that leave 3 where they are divided by 16. Every number where
     /// none comes.
     pub fn class(&mut self) -> (u32, u32) {
-        match self.value_of("class") {
-            Some(value) => two_numbers(value).unwrap_or((0, 1)),
-            None => (0, 1),
-        }
+        two_numbers(self.value_of("class=")).unwrap_or((0, 1))
     }
 }
 
@@ -77,9 +76,9 @@ pub(crate) fn number_behind(word: &str, sign: &str) -> Option<u32> {
 }
 
 /// Both numbers of a word such as `3/16`.
-pub fn two_numbers(word: &str) -> Option<(u32, u32)> {
-    let (first, second) = word.split_once('/')?;
-    match (number(first), number(second)) {
+pub fn two_numbers(text: &str) -> Option<(u32, u32)> {
+    let mut words = Words::of(text);
+    match (number(words.part("/")), number(words.rest())) {
         (Some(first), Some(second)) => Some((first, second)),
         _ => None,
     }
@@ -87,11 +86,10 @@ pub fn two_numbers(word: &str) -> Option<(u32, u32)> {
 
 /// The row in a line, without the answer that may stand behind it; none in a comment, an empty line or a line of a document.
 pub fn row_in(line: &str) -> Option<&str> {
-    if line.is_empty() || line.starts_with('#') || line.starts_with('|') {
+    let mut words = Words::of(line);
+    let row = words.part(" => ");
+    if row.is_empty() || row.starts_with('#') || row.starts_with('|') {
         return None;
     }
-    match line.split_once(" => ") {
-        Some((row, _)) => Some(row),
-        None => Some(line),
-    }
+    Some(row)
 }

@@ -1,22 +1,30 @@
 //! `test_rows`: answers rows of every layer. It reads files of rows from standard input, makes the call that each row writes, and writes the row again with the
 //! answer that it got. `tests/rows/README.md` says how rows are written; `tools/gate/rows` compares. A row whose call wants memory is compared with what
 //! it saw before the call, and answered once more, so what is written is the same where one growth is refused. Where memory was wanted by the program itself the
-//! status is 4. It promises nothing else.
+//! status is 4. With words it makes the public calls of one layer as often as they say (`test_layers::benches`), or reads one document, `toml`, `json` or
+//! `plan`; then the status says whether each came to what it should. It promises nothing else.
 #![tactic(auto)]
 
 mod apart;
+mod bench_documents;
 mod plan_steps;
 mod shard_opening;
 mod shard_rows;
 mod typed;
 
+use crate::bench_documents::reads_input;
 use std::alloc::Global;
+use std::env;
 use std::io::{self, Read};
 use std::process::ExitCode;
+use test_layers::benches::measured;
 use test_layers::sheets::{End, Sheet};
+use test_layers::words::{Words, number};
 
 /// Room for the files of rows that the program is given, made at once.
 const ROOM: usize = 65_536;
+/// The most files of rows that it is given.
+const MOST_FILES: usize = 64;
 
 /// Adds the rows of a layer to a sheet, with their answers.
 fn play(alloc: Global, sheet: &mut Sheet, layer: &str, rows: &str) -> End {
@@ -46,13 +54,14 @@ fn tell_files(rt: &HostRuntime, text: &str) -> End {
     let Some(files) = text.strip_prefix("layer ") else {
         return End::Unreadable;
     };
-    for file in files.split("\nlayer ") {
-        let end = tell_file(rt, file);
-        if end != End::Well {
+    let mut files = Words::of(files);
+    for _ in 0..MOST_FILES {
+        let end = tell_file(rt, files.part("\nlayer "));
+        if end != End::Well || files.rest().is_empty() {
             return end;
         }
     }
-    End::Well
+    End::Unreadable
 }
 
 /// All that standard input gives.
@@ -62,17 +71,59 @@ fn read_input(rt: &HostRuntime) -> io::Result<String> {
     Ok(text)
 }
 
+/// How it ended where a device failed.
+fn failed(error: &io::Error) -> End {
+    match error.kind() {
+        io::ErrorKind::OutOfMemory => End::NoMemory,
+        _ => End::Unreadable,
+    }
+}
+
 /// The rows of each file that is read.
 fn tell_input(rt: &HostRuntime) -> End {
     match read_input(rt) {
         Ok(text) => tell_files(rt, text.as_str()),
-        Err(e) if e.kind() == io::ErrorKind::OutOfMemory => End::NoMemory,
-        Err(_) => End::Unreadable,
+        Err(error) => failed(&error),
     }
 }
 
+/// The number that a word is; 0 where there is none.
+fn number_at(words: &[String], place: usize) -> u32 {
+    match words.get(place) {
+        Some(word) => number(word.as_str()).unwrap_or(0),
+        None => 0,
+    }
+}
+
+/// Whether the calls or the document that words ask for came to what they should.
+fn is_measured(rt: &HostRuntime, layer: &str, words: &[String]) -> bool {
+    match layer {
+        "toml" | "json" | "plan" => reads_input(rt, layer),
+        _ => measured(rt.alloc(), layer, number_at(words, 2), number_at(words, 3)),
+    }
+}
+
+/// What words ask for, or else the rows that are read.
+fn answer(rt: &HostRuntime, words: &[String]) -> End {
+    match words.get(1) {
+        Some(layer) if is_measured(rt, layer.as_str(), words) => End::Well,
+        Some(_) => End::Unreadable,
+        None => tell_input(rt),
+    }
+}
+
+/// The words that the process was called with.
+fn arguments(rt: &HostRuntime) -> io::Result<Vec<String>> {
+    let words = env::args(rt)?.collect(rt.alloc())?;
+    Ok(words)
+}
+
 fn main(rt: HostRuntime) -> ExitCode {
-    match tell_input(&rt) {
+    let end = match arguments(&rt) {
+        Ok(words) => answer(&rt, words.as_slice()),
+        Err(error) => failed(&error),
+    };
+    match end {
         End::Well => ExitCode::SUCCESS,
         End::NoMemory => ExitCode::from(4),
         _ => ExitCode::FAILURE,

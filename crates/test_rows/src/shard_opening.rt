@@ -5,58 +5,52 @@ use mg_names::identifiers::{CallNo, LineNo};
 use shards::{OpenFault, OpenedCall, Shard};
 use std::alloc::Global;
 use test_layers::pages::{Answer, Page};
-use test_layers::words::{Words, number};
+use test_layers::words::Words;
+
+/// The most lines of a call, and the most calls, that a row names.
+const MOST: usize = 16;
 
 /// Adds the lines that words name by their numbers.
-fn add_lines(lines: &mut Vec<LineNo>, text: &str) -> Answer {
-    for word in text.split(' ') {
-        let Some(line) = number(word) else {
+fn add_lines(lines: &mut Vec<LineNo>, words: &mut Words<'_>) -> Answer {
+    for _ in 0..MOST {
+        let Some(line) = words.number() else {
             return Answer::NoCall;
         };
         if lines.push(LineNo(line)).is_err() {
             return Answer::NoMemory;
         }
+        if words.rest().is_empty() {
+            return Answer::Told;
+        }
     }
-    Answer::Told
+    Answer::NoCall
 }
 
-/// A call with which a shard opens: `0 on 1 2`.
-fn opened_call(alloc: Global, text: &str) -> Result<OpenedCall, Answer> {
+/// Adds a call with which a shard opens: `0 on 1 2`.
+fn add_call(alloc: Global, calls: &mut Vec<OpenedCall>, text: &str) -> Answer {
     let mut words = Words::of(text);
-    let Some(call) = words.number() else {
-        return Err(Answer::NoCall);
-    };
+    let call = CallNo(words.number().unwrap_or(0));
     let _on = words.next();
     let mut lines = Vec::new(alloc);
-    match add_lines(&mut lines, words.rest()) {
-        Answer::Told => Ok(OpenedCall {
-            call: CallNo(call),
-            lines,
-        }),
-        answer => Err(answer),
-    }
-}
-
-/// Adds a call with which a shard opens.
-fn add_call(alloc: Global, calls: &mut Vec<OpenedCall>, text: &str) -> Answer {
-    match opened_call(alloc, text) {
-        Ok(call) => match calls.push(call) {
+    match add_lines(&mut lines, &mut words) {
+        Answer::Told => match calls.push(OpenedCall { call, lines }) {
             Ok(()) => Answer::Told,
             Err(_) => Answer::NoMemory,
         },
-        Err(answer) => answer,
+        answer => answer,
     }
 }
 
 /// Adds the calls with which a shard opens: `0 on 1 2, 1 on 3 4`.
 fn add_calls(alloc: Global, calls: &mut Vec<OpenedCall>, text: &str) -> Answer {
-    for part in text.split(", ") {
-        let answer = add_call(alloc, calls, part);
-        if answer != Answer::Told {
+    let mut parts = Words::of(text);
+    for _ in 0..MOST {
+        let answer = add_call(alloc, calls, parts.part(", "));
+        if answer != Answer::Told || parts.rest().is_empty() {
             return answer;
         }
     }
-    Answer::Told
+    Answer::NoCall
 }
 
 /// The calls with which a shard opens.

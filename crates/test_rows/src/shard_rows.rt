@@ -3,7 +3,7 @@
 use crate::apart;
 use crate::plan_steps::{self, event};
 use crate::shard_opening::{checked, opened};
-use crate::typed::{self, call_of, events, write_faults, write_next};
+use crate::typed::{self, write_faults, write_next};
 use agent::{Next, Refusal};
 use composition::{CheckFault, Checked, Verdict};
 use mg_model::events::Event;
@@ -56,7 +56,7 @@ fn write_done(
         }
         Ok(Stepped::Begun { retired }) => {
             page.numbered("call ", u64::from(retired.call.0));
-            page.numbered(" retired, call ", u64::from(call_of(next).0));
+            page.numbered(" retired, call ", u64::from(next.call().0));
             page.say(", ");
         }
         Err(Refusal::NoMemory) => return Answer::NoMemory,
@@ -86,7 +86,7 @@ fn go<'s>(
     next: Next<'s>,
     step: &PlanStep,
 ) -> (Next<'s>, Answer) {
-    let call = call_of(&next);
+    let call = next.call();
     let new = CallNo(call.0.saturating_add(BEGUN));
     match shard.meaning(call, new, step) {
         Some(event) => give(page, script, shard, next, event),
@@ -95,14 +95,6 @@ fn go<'s>(
             let answer = write_next(page, script, &next);
             (next, answer)
         }
-    }
-}
-
-/// Writes what a shard has of a call.
-fn write_part(page: &mut Page, shard: &Shard<'_>, call: CallNo) -> Answer {
-    match shard.part(call) {
-        Ok(part) => write_events(page, part.as_slice()),
-        Err(_) => Answer::NoMemory,
     }
 }
 
@@ -122,16 +114,6 @@ fn write_standing(page: &mut Page, script: &Script, shard: &Shard<'_>, call: Cal
     Answer::Told
 }
 
-/// A shard restarts.
-fn restart(page: &mut Page, shard: &mut Shard<'_>) -> Answer {
-    match shard.restart() {
-        Ok(association) => page.numbered("association ", association.0),
-        Err(RestartFault::NoMemory) => return Answer::NoMemory,
-        Err(_) => page.say("cannot happen"),
-    }
-    Answer::Told
-}
-
 /// A row of a shard alone.
 fn of_shard(
     page: &mut Page,
@@ -141,9 +123,22 @@ fn of_shard(
     words: &mut Words<'_>,
 ) -> Answer {
     match (verb, words.number()) {
-        ("restart", _) => restart(page, shard),
+        ("restart", _) => match shard.restart() {
+            Ok(association) => {
+                page.numbered("association ", association.0);
+                Answer::Told
+            }
+            Err(RestartFault::NoMemory) => Answer::NoMemory,
+            Err(_) => {
+                page.say("cannot happen");
+                Answer::Told
+            }
+        },
         ("history", _) => write_events(page, shard.history()),
-        ("part", Some(call)) => write_part(page, shard, CallNo(call)),
+        ("part", Some(call)) => match shard.part(CallNo(call)) {
+            Ok(part) => write_events(page, part.as_slice()),
+            Err(_) => Answer::NoMemory,
+        },
         ("standing", Some(call)) => write_standing(page, script, shard, CallNo(call)),
         _ => Answer::NoCall,
     }
@@ -252,12 +247,12 @@ impl<'s> Shards<'s> {
             "apart" => apart::hear(page, script, next, words),
             "log" => apart::log(page, script, next, words),
             "transcript" => {
-                let answer = write_events(page, events(&next));
+                let answer = write_events(page, next.transcript());
                 (next, answer)
             }
             _ => match event(words) {
                 Some(event) => {
-                    let call = call_of(&next);
+                    let call = next.call();
                     give(page, script, shard, next, Event::OfCall { call, event })
                 }
                 None => (next, Answer::NoCall),
