@@ -30,12 +30,16 @@ fn given(names: &Names, word: &str) -> Option<u32> {
 
 /// The number that a verb asks for: of the members of a context, of a context or an ephemeral that was given, or what is left where that is divided.
 fn number_of(names: &Names, board: &Board, verb: &str, first: &str, second: &str) -> Option<u32> {
-    match (names.context(first), given(names, first)) {
-        (Some(context), _) if verb == "members" => {
-            u32::try_from(board.members(context).len()).ok()
-        }
-        (_, Some(known)) if verb == "rest" => known.checked_rem(number(second).unwrap_or(0)),
-        (_, known) if verb == "number" => known,
+    match verb {
+        "members" => match names.context(first) {
+            Some(context) => u32::try_from(board.members(context).len()).ok(),
+            None => None,
+        },
+        "rest" => match given(names, first) {
+            Some(known) => known.checked_rem(number(second).unwrap_or(0)),
+            None => None,
+        },
+        "number" => given(names, first),
         _ => None,
     }
 }

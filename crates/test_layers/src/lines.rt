@@ -109,17 +109,19 @@ impl Lines {
         line: LineNo,
         words: &mut Words<'_>,
     ) -> Answer {
-        match (
-            verb,
-            signals::read(words.rest()),
-            events::event(verb, words),
-        ) {
-            ("line", _, _) => write_did(page, self.lines.add_line(line)),
-            ("signals", Some(set), _) => write_did(page, self.lines.signal(line, set)),
-            ("clear", _, _) => write_did(page, self.lines.clear(line)),
-            ("show", _, _) => events::write_line(page, self.lines.row(line)),
-            (_, _, Some(event)) => write_noted(page, &happen(&mut self.lines, line, event)),
-            _ => Answer::NoCall,
+        match verb {
+            "line" => write_did(page, self.lines.add_line(line)),
+            "events" => self.events(page, line, words),
+            "signals" => match signals::read(words.next()) {
+                Some(set) => write_did(page, self.lines.signal(line, set)),
+                None => Answer::NoCall,
+            },
+            "clear" => write_did(page, self.lines.clear(line)),
+            "show" => events::write_line(page, self.lines.row(line)),
+            _ => match events::event(verb, words) {
+                Some(event) => write_noted(page, &happen(&mut self.lines, line, event)),
+                None => Answer::NoCall,
+            },
         }
     }
 
@@ -168,7 +170,6 @@ impl Layer for Lines {
             return self.map(page, words.rest());
         }
         match names::line(words.next()) {
-            Some(line) if verb == "events" => self.events(page, line, &mut words),
             Some(line) => self.of_line(page, verb, line, &mut words),
             None => self.of_all(page, verb),
         }
