@@ -5,7 +5,9 @@ ghost use Rattle.mg_model.specs.declared.plans.PlanStep.TheVariants as steps;
 ghost use Rattle.agent.specs.declared.refusal.Refusal.TheVariants as refusals;
 ghost use Rattle.agent.specs.declared.refusal.Refusal.TheVariants.{NotEnabled};
 ghost use Rattle.shards.specs.CanOccur.{NeverOccurs};
+ghost use Rattle.shards.specs.Meaning.{IsCountedAs};
 ghost use Rattle.shards.specs.Shards.{HasSameOpening};
+ghost use Rattle.shards.specs.Stepping.{IsStep};
 ghost use Rattle.planned_calls.specs.Disagreements.{IsBecause, IsNotTaken, IsUntaken, last_number};
 ghost use Rattle.planned_calls.specs.declared.fault.RunFault.TheVariants as faults;
 ghost use Rattle.planned_calls.specs.Taking.{IsTaken, IsWritten, SettlesAs, first_of, left_of, stands_behind};
@@ -112,6 +114,27 @@ fn refused(shard: &Shard<'_>, event: Event, why: Refusal) -> Result<(), RunFault
     }
 }
 
+/// The event happens to the shard and to the call that is handed in. Where that is the call that stands, with as many events as its shard counts, the shard isn't
+/// asked for it once more.
+fn stepped<'s>(
+    shard: &mut Shard<'s>,
+    next: Next<'s>,
+    standing: CallNo,
+    events: usize,
+    event: Event,
+) -> (Next<'s>, Result<Stepped, Refusal>)
+    requires { IsCountedAs shard.old standing.0 events }
+    ensures { IsStep shard.old shard.new next.entry result.0 event result.1 }
+{
+    if next.call().0 != standing.0 {
+        return shard.step(next, event);
+    }
+    if next.transcript().len() != events {
+        return shard.step(next, event);
+    }
+    shard.step_held(next, event)
+}
+
 impl<'s> PlannedCall<'s> {
     /// A call of the plan as it opens.
     pub fn new(alloc: Global, next: Next<'s>, call: CallNo) -> PlannedCall<'s>
@@ -178,12 +201,12 @@ impl<'s> PlannedCall<'s> {
         let Some(begins) = number_after(planned.standing) else {
             return (planned, Err(RunFault::Disagree));
         };
-        let Some(stands) = shard.standing(planned.standing) else {
+        let Some(told) = shard.meant(planned.standing, begins, step) else {
             return (planned, Err(RunFault::Disagree));
         };
         let first = planned.standing.0 % PLAN_CALLS;
-        let state = stands.state;
-        let Some(event) = shard.meaning(planned.standing, begins, step) else {
+        let state = told.standing.state;
+        let Some(event) = told.event else {
             return (planned, Ok(TakenStep::new(first, state, None)));
         };
         shard.keeps_its_run();
@@ -192,7 +215,7 @@ impl<'s> PlannedCall<'s> {
             standing,
             log,
         } = planned;
-        let (next, done) = shard.step(next, event);
+        let (next, done) = stepped(shard, next, standing, told.events, event);
         planned = PlannedCall {
             next,
             standing,
