@@ -124,7 +124,14 @@ fn tour<T: Threads + Wait + Sync>(
 ) -> End {
     match Plan::read(rt.alloc(), text.as_bytes(), checked.script()) {
         Ok(plan) => {
-            match run(threads, rt.alloc(), checked, &plan, asked.workers, &asked.gate) {
+            match run(
+                threads,
+                rt.alloc(),
+                checked,
+                &plan,
+                asked.workers,
+                &asked.gate,
+            ) {
                 Ok(outcome) => tell(rt, checked.script(), &outcome, asked.is_counted),
                 Err(fault) => tell_fault(rt, fault),
             }
