@@ -75,8 +75,13 @@ fn counts(alloc: Global, outcome: &Outcome<'_>, line: &Line) -> End {
     let begun = u32::try_from(line.begun).unwrap_or(0);
     let number = begun.saturating_mul(PLAN_CALLS).saturating_add(line.call);
     match outcome.transcript(alloc, CallNo(number)) {
-        Ok(events) if events.len() == line.events => End::Well,
-        Ok(_) => End::Refused,
+        Ok(events) => {
+            if events.len() == line.events {
+                End::Well
+            } else {
+                End::Refused
+            }
+        }
         Err(_) => End::NoMemory,
     }
 }

@@ -106,8 +106,13 @@ fn is_measured(rt: &HostRuntime, layer: &str, words: &[String]) -> bool {
 /// What words ask for, or else the rows that are read.
 fn answer(rt: &HostRuntime, words: &[String]) -> End {
     match words.get(1) {
-        Some(layer) if is_measured(rt, layer.as_str(), words) => End::Well,
-        Some(_) => End::Unreadable,
+        Some(layer) => {
+            if is_measured(rt, layer.as_str(), words) {
+                End::Well
+            } else {
+                End::Unreadable
+            }
+        }
         None => tell_input(rt),
     }
 }
