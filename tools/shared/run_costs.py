@@ -14,6 +14,15 @@ SOURCE = Path(__file__).resolve().parents[2] / "tests/tuned_runner.cpp"
 # How a run on no worker ends: all is read and checked, and nothing is run.
 BAD_WORKERS = 5
 VERIFIES = "--verify"
+# The parts of a run, by the functions that stand for them.
+OF_A_RUN = {
+    "the library reads the plan": ["toml::de::table_from_slice"],
+    "its tree is let go": ["plans::toml++value++Value+Destruct::drop"],
+    "requests on two sets of connections": ["requests::connections::Connections::run"],
+    "the agent of the call that is handed in": ["agent::logged::Logged::step"],
+    "opening": ["shards::opening::open_all"],
+    "the allocator, for all of these": ["rattle_alloc", "rattle_dealloc", "rattle_realloc"],
+}
 NAMES = "mgcall run", "tuned runner with each call alone once more", "tuned runner"
 
 
@@ -91,6 +100,19 @@ def tuned_runs():
                 print(f"  {name} an event: {beside(whole)}; without reading {beside([each - less for each, less in zip(whole, read)])}")
 
 
+def run_parts():
+    """Of the instructions of a whole run of `mgcall run` on one worker, how many in a hundred the parts take that have a name of their own, each with what it
+    calls, so that one may be within another."""
+    if not measuring.has_valgrind():
+        return
+    with tempfile.TemporaryDirectory() as folder:
+        for kind, calls in run_inputs.kinds():
+            path, events = write(Path(folder), kind, calls)
+            found = measuring.inclusive(run_of((checks.PROGRAM,), 1)[0], path)
+            shares = ", ".join(f"{said} {100 * sum(found.get(name, 0) for name in names) / found['main']:.1f}" for said, names in OF_A_RUN.items())
+            print(f"{kind.name}, {found['main'] / events:.0f} instructions an event; in a hundred: {shares}")
+
+
 def tuned_sizes():
     """The processor time of an event with 10,000 calls and with 100, in one shard on one worker, without reading."""
     long = next(kind for kind, _ in run_inputs.kinds() if kind.name == "long")
@@ -119,4 +141,4 @@ def tuned_workers():
             print(f"{name}, {events} events: four workers {one:.3f} s, four runs {apart:.3f} s; four workers reach {apart / one:.2f} of them")
 
 
-PARTS = tuned_runs, tuned_sizes, tuned_workers
+PARTS = tuned_runs, run_parts, tuned_sizes, tuned_workers
