@@ -32,7 +32,7 @@ PARTS = {
         ),
     },
     "shards": {"messages": Part("messages Messages", "", "agent gateway composition systems")},
-    "workers": {"steps": Part("gate worker workplace PlanSteps Working", "", "plans composition")},
+    "workers": {"steps": Part("worker workplace PlanSteps Working", "", "plans composition")},
     "call_ways": {
         "keys": Part("key Key", "", "closure entry_table script_table"),
         "ways": Part("find found reached search trace way Reached Search Ways", "keys", "mg_names"),
