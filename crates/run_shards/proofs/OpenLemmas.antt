@@ -1,7 +1,10 @@
 -- The calls of a plan as they are opened: which calls a shard hands out, and where they stand, those of one shard after the other.
 use Rattle.std.proofs.Common.{◌≡◌, ◌∙◌, ◌+◌, ◌<◌, ◌≤◌, ◌++◌, inl, inr, ℕ, zero, suc, Bool, true, false, List, [], ◌∷◌, length, map, set, Option, Some, None, refl, sym, ap, subst, rules, arith}
-use Rattle.std.specs.Prelude.{◌%◌, ◌==◌, if◌then◌else◌, slice_get, slice_index_or}
+use Rattle.std.specs.Prelude.{◌%◌, ◌==◌, if◌then◌else◌, Result, Ok, slice_get, slice_index_or}
+use Rattle.std.specs.List.{AllZip, range_with_len}
 use Rattle.std.specs.Option.{option_or}
+use Rattle.std.specs.declared.alloc.Global.{Global}
+use Rattle.std.specs.declared.vec.Vec.{Vec}
 use Rattle.std.proofs.lemmas.Bool.{cases_eq, eq-eqb, eqb-false, eqb-true, ne_eqb, true≢false}
 use Rattle.std.proofs.lemmas.List.{append-nil, append_assoc, get_or-set_same, get_or-set_other}
 use Rattle.std.proofs.lemmas.Nat.{mod_below}
@@ -19,8 +22,9 @@ use Rattle.planned_calls.specs.Opening.{AreEntered}
 use Rattle.planned_calls.specs.Parts.{opened_in}
 use Rattle.planned_calls.specs.Shards.{opened_as}
 use Rattle.planned_calls.specs.OpenedCall.{OpenedCall}
+use Rattle.planned_calls.specs.declared.fault.RunFault.{RunFault}
 use Rattle.planned_calls.specs.declared.planned_call.PlannedCall.{PlannedCall}
-use Rattle.run_shards.specs.Opening.{AreHandedOut, AreOpened, AreSeated, Begins, IsHandedOut, IsOpenedAs, IsPutAt, StandsOpened, last_numbered, number_of}
+use Rattle.run_shards.specs.Opening.{AreHandedOut, AreOpened, AreSeated, Begins, HandsOutOwn, IsHandedOut, IsOpenedAs, IsPutAt, StandsOpened, last_numbered, number_of}
 
 -- ---- what a shard hands out
 
@@ -177,8 +181,9 @@ abbrev pub AreOpenedBelow : Script → List PlanCall → (count shard : ℕ) →
 AreOpenedBelow script calls count shard places = (number : ℕ) (call : PlanCall) → slice_get calls number ≡ Some call → number % count < shard
     → StandsOpened script (plans.opened_as number call) (slice_index_or places number None)
 
-pub none_opened : (script : Script) (calls : List PlanCall) (count : ℕ) (places : List (Option PlannedCall)) → AreOpenedBelow script calls count 0 places
-none_opened script calls count places number call at below = absurd (let none : number % count < 0 = below in omega (arith, none))
+pub none_opened : (script : Script) (calls : List PlanCall) (count shard : ℕ) (places : List (Option PlannedCall)) → shard ≡ 0
+    → AreOpenedBelow script calls count shard places
+none_opened script calls count shard places none number call at below = absurd (let less : number % count < shard = below in omega (arith, none, less))
 
 opened_as_begun : (script : Script) (one : Opened) (next : Next) (planned : PlannedCall) → IsHandedOut script one next → Begins next planned
     → IsOpenedAs script one planned
@@ -197,17 +202,17 @@ stands_put script one None old new found seated = absurd found
 stands_put script one (Some next) old None found seated = absurd seated
 stands_put script one (Some next) old (Some planned) found seated = opened_as_begun script one next planned found seated
 
-pub shard_opened : (script : Script) (calls : List PlanCall) (count shard : ℕ) (nexts : List Next) (old new : List (Option PlannedCall))
+pub shard_opened : (script : Script) (calls : List PlanCall) (count shard next : ℕ) (nexts : List Next) (old new : List (Option PlannedCall)) → next ≡ shard + 1
     → AreHandedOut script (opened_in count shard 0 calls) nexts → AreSeated nexts old new → AreOpenedBelow script calls count shard old
-    → AreOpenedBelow script calls count (shard + 1) new
-shard_opened script calls count shard nexts old new handed seated before number call at below = elim (cases_eq (number % count) shard) [
+    → AreOpenedBelow script calls count next new
+shard_opened script calls count shard next nexts old new one_more handed seated before number call at below = elim (cases_eq (number % count) shard) [
   | inl own ↦ stands_put script (plans.opened_as number call) (last_numbered number nexts) (slice_index_or old number None) (slice_index_or new number None)
       (the_one script count shard 0 calls nexts number number call handed (let same : number ≡ 0 + number = omega arith in same) at own) (seated number)
   | inr other ↦
       let none : last_numbered number nexts ≡ None = no_one script count shard 0 calls nexts number handed (λ same. absurd (other same)) in
       let stays : slice_index_or new number None ≡ slice_index_or old number None =
       subst (λ (put : Option Next). IsPutAt put (slice_index_or old number None) (slice_index_or new number None)) none (seated number) in
-      subst (StandsOpened script (plans.opened_as number call)) (sym stays) (before number call at (omega (arith, below, other)))
+      subst (StandsOpened script (plans.opened_as number call)) (sym stays) (before number call at (omega (arith, below, other, one_more)))
 ]
 
 pub shards_opened : (script : Script) (calls : List PlanCall) (count shard : ℕ) (places : List (Option PlannedCall)) → count ≤ shard → 0 < count
@@ -215,3 +220,51 @@ pub shards_opened : (script : Script) (calls : List PlanCall) (count shard : ℕ
 shards_opened script calls count shard places all some before number call at =
     let within : number % count < count = mod_below number count some in
     before number call at (omega (arith, within, all))
+
+-- ---- shards that are opened, and not yet looked at
+
+module _ {X : Type 0} (script : Script) (calls : List PlanCall) (count : ℕ) where
+  -- each of these shards hands out its calls
+  abbrev AllHandOut : List ℕ → List (Result (X × Vec Next Global) RunFault) → Type 0
+  AllHandOut = AllZip (HandsOutOwn script calls count)
+
+  -- these are the shards from this one on
+  pub record AreLeft (shard : ℕ) (left : List (Result (X × Vec Next Global) RunFault)) : Type 0 where
+    pub more : ℕ
+    pub all : shard + more ≡ count
+    pub each : AllHandOut (range_with_len shard more) left
+
+  pub all_left : (shard : ℕ) (left all : List (Result (X × Vec Next Global) RunFault)) → shard ≡ 0 → left ≡ all
+      → AllHandOut (range_with_len 0 count) all → AreLeft shard left
+  all_left shard left all none same each = record {
+    more = count;
+    all = omega (arith, none);
+    each = subst (AllHandOut (range_with_len shard count)) (sym same)
+        (subst (λ (n : ℕ). AllHandOut (range_with_len n count) all) (sym none) each);
+  }
+
+  -- what the first of them hands out, and those behind it
+  pub first_left : (shard next : ℕ) (left after : List (Result (X × Vec Next Global) RunFault)) (one : Result (X × Vec Next Global) RunFault)
+      (opened : X × Vec Next Global) → next ≡ shard + 1 → left ≡ one ∷ after → one ≡ Ok opened → AreLeft shard left
+      → AreHandedOut script (opened_in count shard 0 calls) opened.1.items × AreLeft next after
+  first_left shard next left after one opened one_more step is are = by_more are.more are.all
+      (subst (AllHandOut (range_with_len shard are.more)) (step ∙ ap (λ (o : Result (X × Vec Next Global) RunFault). o ∷ after) is) are.each)
+    where
+      by_more : (more : ℕ) → shard + more ≡ count → AllHandOut (range_with_len shard more) (Ok opened ∷ after)
+          → AreHandedOut script (opened_in count shard 0 calls) opened.1.items × AreLeft next after
+      by_more zero all each = absurd each
+      by_more (suc more) all (first, later) = (
+        first,
+        record {
+          more = more;
+          all = omega (arith, all, one_more);
+          each = subst (λ (n : ℕ). AllHandOut (range_with_len n more) after) (sym one_more) later;
+        },
+      )
+
+  pub none_left : (shard : ℕ) (left : List (Result (X × Vec Next Global) RunFault)) → left ≡ [] → AreLeft shard left → shard ≡ count
+  none_left shard left none are = by_more are.more are.all (subst (AllHandOut (range_with_len shard are.more)) none are.each)
+    where
+      by_more : (more : ℕ) → shard + more ≡ count → AllHandOut (range_with_len shard more) [] → shard ≡ count
+      by_more zero all each = omega (arith, all)
+      by_more (suc more) all each = absurd each

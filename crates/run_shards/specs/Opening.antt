@@ -1,7 +1,9 @@
 -- The calls of a plan as a run opens them. A reader should check that each stands at the place of its number, at rest in the start state on its lines, and that
 -- nothing happened to it. This profile's own.
-use Rattle.std.specs.Prelude.{◌≡◌, ℕ, ◌==◌, if◌then◌else◌, List, [], ◌∷◌, Option, Some, None, slice_get, slice_index_or}
+use Rattle.std.specs.Prelude.{◌≡◌, ℕ, ◌==◌, if◌then◌else◌, List, [], ◌∷◌, IfOk, Option, Result, Some, None, slice_get, slice_index_or}
 use Rattle.std.specs.Option.{option_or}
+use Rattle.std.specs.declared.alloc.Global.{Global}
+use Rattle.std.specs.declared.vec.Vec.{Vec}
 use Rattle.mg_model.specs.Agent.{opened}
 use Rattle.mg_model.specs.Plans.{PlanCall, opened_as}
 use Rattle.mg_model.specs.Script.{Script}
@@ -9,7 +11,9 @@ use Rattle.mg_model.specs.World.{Opened}
 use Rattle.agent.specs.AgentValue.{agent_of}
 use Rattle.agent.specs.Calls.{value_of}
 use Rattle.agent.specs.declared.call.Next.{Next}
+use Rattle.planned_calls.specs.Parts.{opened_in}
 use Rattle.planned_calls.specs.Taking.{trail_of}
+use Rattle.planned_calls.specs.declared.fault.RunFault.{RunFault}
 use Rattle.planned_calls.specs.declared.planned_call.PlannedCall.{PlannedCall}
 
 -- ---- the calls of a plan
@@ -43,6 +47,10 @@ abbrev pub AreHandedOut : Script → List Opened → List Next → Type 0
 AreHandedOut script [] [] = Unit {0}
 AreHandedOut script (one ∷ more) (next ∷ nexts) = IsHandedOut script one next × AreHandedOut script more nexts
 AreHandedOut script ones nexts = ⊥
+
+-- the calls of a plan that stand in a shard, one of so many, where it opens
+abbrev pub HandsOutOwn : {X : Type 0} → Script → List PlanCall → (count shard : ℕ) → Result (X × Vec Next Global) RunFault → Type 0
+HandsOutOwn script calls count shard opened = IfOk opened (λ all. AreHandedOut script (opened_in count shard 0 calls) all.1.items)
 
 -- ---- how they come to their places
 

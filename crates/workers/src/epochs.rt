@@ -98,7 +98,7 @@ fn go<'s, G: Gate, B: Running + Send + Sync, R: Threads + Wait + Sync>(
     ensures all { IfOk result (λ r. vec_len r.1 ≡ length plan.now.calls) }
     ensures ended { IfOk result (λ r. HaveEnded plan.now.calls r.1.items) }
 {
-    let (shards, places) = open_all::<B>(alloc, checked, plan)?;
+    let (shards, places) = open_all::<B, R>(rt, alloc, checked, plan, workers)?;
     let run_plan = RunPlan::<B>::new(plan);
     let first = Workplace {
         shards: shards.as_slice(),
