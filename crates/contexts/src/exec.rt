@@ -75,8 +75,8 @@ impl Board {
 }
 
 impl Board {
-    /// A command that is legal.
-    fn run(&mut self, item: &Item) -> Result<Done, AllocError>
+    /// Carries out a command that is known to be legal, so no code is asked for. Where memory runs out the board is as it was.
+    pub fn carry_out(&mut self, item: &Item) -> Result<Done, AllocError>
         requires { IsLegal (board_of self.old) item.now }
         ensures ok { IfOk result (IsExecuted (board_of self.old) item.now (board_of self.new)) }
         ensures err { OnErr result (board_of self.new ≡ board_of self.old) }
@@ -121,7 +121,7 @@ impl Board {
         if let Some(code) = self.refusal(item) {
             return Err(ExecFault::Code(code));
         }
-        let Ok(done) = self.run(item) else {
+        let Ok(done) = self.carry_out(item) else {
             return Err(ExecFault::NoMemory);
         };
         Ok(done)
