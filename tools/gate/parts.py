@@ -14,7 +14,7 @@ PARTS = {
     "contexts": {
         "numbers": Part("keys numbered Kept", "", "identifiers"),
         "rows": Part("terms term_rows faults Table LineFaults Rows", "numbers", ""),
-        "ties": Part("members cuts same Groups TiedBoard", "rows", ""),
+        "ties": Part("members cuts same single Groups TiedBoard", "rows", ""),
         "media": Part("wiring media reach found trail paths Paths Found", "ties rows", ""),
     },
     "typed_values": {"shapes": Part("missing names texts unread word Names Shape Texts Unread", "", "toml")},

@@ -12,7 +12,7 @@ ghost use Rattle.contexts.specs.Steps.{IsTakenOut, IsEmptied};
 
 use crate::board::Board;
 use crate::done::Done;
-use crate::members;
+use crate::{members, single};
 use mg_names::identifiers::{ContextId, LineNo, TermId};
 use std::alloc::{AllocError, Global};
 use std::collections::BTreeSet;
@@ -74,29 +74,11 @@ fn taken_out(alloc: Global, group: &[TermId]) -> Result<Done, AllocError>
     })
 }
 
-/// A list of one line.
-fn one_line(alloc: Global, line: LineNo) -> Result<Vec<LineNo>, AllocError>
-    ensures { IfOk result (λ found. found.items ≡ line ∷ []) }
-{
-    let mut found = Vec::new(alloc);
-    found.extend_from_slice(&[line])?;
-    Ok(found)
-}
-
-/// A list of one number.
-fn one_number(alloc: Global, number: u32) -> Result<Vec<u32>, AllocError>
-    ensures { IfOk result (λ found. found.items ≡ number ∷ []) }
-{
-    let mut found = Vec::new(alloc);
-    found.extend_from_slice(&[number])?;
-    Ok(found)
-}
-
 /// What Subtract tells of a line that it took out.
 fn line_taken_out(alloc: Global, line: LineNo) -> Result<Done, AllocError>
     ensures { IfOk result (IsTakenOut (Line line ∷ [])) }
 {
-    let lines = one_line(alloc, line)?;
+    let lines = single::list(alloc, line)?;
     Ok(Done {
         context: None,
         ephemeral: None,
@@ -109,7 +91,7 @@ fn line_taken_out(alloc: Global, line: LineNo) -> Result<Done, AllocError>
 fn ephemeral_taken_out(alloc: Global, number: u32) -> Result<Done, AllocError>
     ensures { IfOk result (IsTakenOut (Eph number ∷ [])) }
 {
-    let ephemerals = one_number(alloc, number)?;
+    let ephemerals = single::list(alloc, number)?;
     Ok(Done {
         context: None,
         ephemeral: None,

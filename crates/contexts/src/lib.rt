@@ -33,6 +33,7 @@ mod reach;
 mod refusals;
 mod rows;
 mod same;
+mod single;
 mod subtract;
 mod subtract_all;
 mod term_rows;

@@ -6,6 +6,7 @@ ghost use Rattle.identifiers.specs.Stock.{is_held, is_used, IsGiven};
 ghost use Rattle.contexts.specs.Groups.{members_at, listed, with_member, without_member};
 
 use crate::same::is_same;
+use crate::single;
 use identifiers::Identifiers;
 use mg_names::identifiers::TermId;
 use std::alloc::{AllocError, Global};
@@ -29,15 +30,6 @@ pub fn of_context(members: &Members, context: u32) -> &[TermId]
     }
 }
 
-/// A list of one.
-fn alone(alloc: Global, t: TermId) -> Result<Vec<TermId>, AllocError>
-    ensures { IfOk result (λ group. group.items ≡ t ∷ []) }
-{
-    let mut group = Vec::new(alloc);
-    group.extend_from_slice(&[t])?;
-    Ok(group)
-}
-
 /// Adds a member to a list.
 fn append(group: &mut Vec<TermId>, t: TermId) -> Result<(), AllocError>
     ensures ok { OnOk result (group.new.items ≡ group.old.items ++ t ∷ []) }
@@ -54,7 +46,7 @@ fn open(members: &mut Members, alloc: Global, t: TermId) -> Result<u32, AllocErr
     ensures class { members.new.class ≡ members.old.class }
     ensures err { OnErr result (members.new ≡ members.old) }
 {
-    let group = alone(alloc, t)?;
+    let group = single::list(alloc, t)?;
     let Ok(number) = members.create(group) else {
         return Err(AllocError);
     };
