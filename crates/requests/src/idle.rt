@@ -1,8 +1,9 @@
 //! A line that is set Inactive in the null context.
-ghost use Rattle.std.specs.Prelude.{◌≡◌, true, OnOk, OnErr};
+ghost use Rattle.std.specs.Prelude.{◌≡◌, ◌↔◌, true, Some, option_map, OnOk, OnErr};
 ghost use Rattle.mg_names.specs.declared.identifiers.TermId.TheVariants.{Line};
+ghost use Rattle.mg_names.specs.declared.modes.Mode.TheVariants.{Inactive};
 ghost use Rattle.requests.specs.Connected.{board_in, line_in};
-ghost use Rattle.requests.specs.Idle.{deactivated, idle_row};
+ghost use Rattle.requests.specs.Idle.{deactivated};
 
 use crate::connections::Connections;
 use contexts::ExecFault;
@@ -14,7 +15,7 @@ use std::alloc::AllocError;
 impl Connections {
     /// Whether a line is Inactive, wherever it stands.
     fn is_inactive(&self, line: LineNo) -> bool
-        ensures { result ≡ true → idle_row ((board_in self.now).row (Line line)) ≡ (board_in self.now).row (Line line) }
+        ensures { (result ≡ true) ↔ (option_map (λ row. row.mode) ((board_in self.now).row (Line line)) ≡ Some Inactive) }
     {
         match self.board.get(TermId::Line(line)) {
             Some(row) => matches!(row.mode, Mode::Inactive),
