@@ -11,7 +11,7 @@ use Rattle.mg_model.specs.Gateway.{outcome_of, board_restarted}
 use Rattle.mg_model.specs.LineEvents.{LineRow, cleared}
 use Rattle.mg_names.specs.declared.identifiers.LineNo.{LineNo}
 use Rattle.std.proofs.Common.{List}
-use Rattle.requests.specs.Connected.{Connected, board_in, line_in, has_line, start_in, lines_after}
+use Rattle.requests.specs.Connected.{Connected, board_in, line_in, has_line, start_in, lines_after, HasResults}
 use Rattle.gateway.specs.Standby.{ShowsSame, ShowsOpened, IsStandby, HasEnd, board_idled, lines_armed}
 
 abbrev pub all_cleared : (ℕ → LineRow) → ℕ → LineRow
@@ -43,6 +43,15 @@ pub opened_from_same : (s a t : Connected) (lines : List LineNo) → ShowsSame s
 opened_from_same s a t lines same opened = record {
   board = opened.board ∙ ap (board_idled lines) same.board;
   rows = opened.rows ∙ ap (λ (x : Board). lines_armed x lines (line_in s)) same.board ∙ ap (lines_armed (board_in a) lines) same.lines;
+}
+
+-- a request that ended from a start has the results with which connections follow it
+pub can_follow : (start ended : Connected) (request : Request) (refusal : Option ChosenRefusal) (results : List Done) → HasEnd start request refusal ended results → HasResults start request refusal results
+can_follow start ended request refusal results has = record {
+  end = record { board = has.is_end.board; line = line_in ended; results = results; notes = has.notes };
+  failure = has.failure;
+  runs = has.is_end.runs;
+  results_are = refl;
 }
 
 -- connections that follow a request to its end show what is active

@@ -1,5 +1,5 @@
 -- A command that is executed: which lines it finds, which stay, which leave, and what is left to do once the board did it.
-use Rattle.std.proofs.Common.{◌≡◌, ◌≢◌, ℕ, ◌==◌, Bool, true, false, not, ◌&&◌, ◌||◌, IsTrue, if◌then◌else◌, List, [], ◌∷◌, ◌++◌, Contains, filter, Option, Some, None, is_some, option_map, refl, ap, sym, ◌∙◌, arith, rules}
+use Rattle.std.proofs.Common.{◌≡◌, ◌≢◌, ℕ, ◌==◌, Bool, true, false, not, ◌&&◌, ◌||◌, IsTrue, if◌then◌else◌, List, [], ◌∷◌, ◌++◌, Contains, filter, Option, Some, None, is_some, option_map, Result, Ok, Err, IfOk, OnErr, refl, ap, sym, ◌∙◌, arith, rules}
 use Rattle.std.proofs.lemmas.Grind.{common_steps}
 use Rattle.std.proofs.lemmas.List.Folds.{list_any_at}
 use Rattle.std.proofs.lemmas.Map.Views.{Contains-from_any}
@@ -22,7 +22,7 @@ use Rattle.requests.specs.Commands.{IsThere, raised_on, row_in, finished, withou
 use Rattle.mg_model.specs.Members.{is_among}
 use Rattle.mg_model.proofs.Cases.{same_test, not_refused}
 use Rattle.mg_model.proofs.Terminations.{same_term_is}
-use Rattle.requests.specs.Connected.{has_line}
+use Rattle.requests.specs.Connected.{has_line, IsMatched}
 
 -- ---- lines that a command finds
 
@@ -62,6 +62,12 @@ effect_stays b (SetTopology context t u topology) chosen l legal = refl
 -- the lines of the board stay
 pub lines_stay : (b : Board) (item : Item) (after : Board) (done : Done) → IsExecuted b item after done → (l : ℕ) → has_line after l ≡ has_line b l
 lines_stay b item after done e l = ap (λ (c : Board). has_line c l) e.effect_is ∙ effect_stays b item e.chosen l e.legal
+
+-- so they are those that have rows
+pub matched : {E : Type 0} (b after : Board) (item : Item) (answer : Result Done E) (rows : ℕ → Option LineRow) → IfOk answer (IsExecuted b item after) → OnErr answer (after ≡ b) →
+    IsMatched b rows → IsMatched after rows
+matched b after item (Ok done) rows executed unchanged h l = lines_stay b item after done executed l ∙ h l
+matched b after item (Err e) rows executed unchanged h l = ap (λ (c : Board). has_line c l) unchanged ∙ h l
 
 there_stays : (b after : Board) → ((l : ℕ) → has_line after l ≡ has_line b l) → (d : Option LineDescriptors) → IsThere b d → IsThere after d
 there_stays b after stays None there = tt

@@ -3,3 +3,4 @@ pub mod RefusalLemmas
 pub mod RunLemmas
 pub mod SameLemmas
 pub mod IdleLemmas
+pub mod FollowLemmas

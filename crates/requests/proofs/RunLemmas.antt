@@ -37,7 +37,7 @@ pub there : (b : Board) (results : List Done) (command : model.RequestCommand) (
 there b results command item after done item_is e = there_after b results command after done (subst (λ (i : Item). IsExecuted b i after done) item_is e)
 
 -- the commands from a place on are the one there and those from the next place on
-from_place : (commands : List RequestCommand) (place : ℕ) (command : RequestCommand) → place < length commands → command ≡ get_or commands place command →
+pub from_place : (commands : List RequestCommand) (place : ℕ) (command : RequestCommand) → place < length commands → command ≡ get_or commands place command →
     map command_of (drop place commands) ≡ command_of command ∷ map command_of (drop (place + 1) commands)
 from_place commands place command bound is =
     ap (λ cs. map command_of cs) (drop-cons commands place command bound)

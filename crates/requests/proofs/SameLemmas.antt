@@ -109,7 +109,7 @@ effect_same b (SubtractAll c) x y e f i = effect b (SubtractAll c) x
 effect_same b (SetTopology c t u topology) x y e f i = effect b (SetTopology c t u topology) x
 
 -- two executions on one board that create the same
-executed_same : (b : Board) (item : Item) (after other : Board) (done told : Done) → IsExecuted b item after done → IsExecuted b item other told → created done ≡ created told → after ≡ other
+pub executed_same : (b : Board) (item : Item) (after other : Board) (done told : Done) → IsExecuted b item after done → IsExecuted b item other told → created done ≡ created told → after ≡ other
 executed_same b item after other done told e f same =
     e.effect_is
     ∙ effect_same b item e.chosen f.chosen (sym e.result.context ∙ ap (λ (x : Option ℕ × Option ℕ). x.0) same ∙ f.result.context)

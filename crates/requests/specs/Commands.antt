@@ -7,11 +7,11 @@ use Rattle.mg_model.specs.declared.failures.ChosenRefusal.{ChosenRefusal}
 use Rattle.mg_names.specs.declared.codes.Code.{Code}
 use Rattle.mg_names.specs.declared.identifiers.LineNo.{LineNo}
 use Rattle.mg_model.specs.Board.{Board}
-use Rattle.mg_model.specs.Items.{Done}
+use Rattle.mg_model.specs.Items.{Done, IsExecuted}
 use Rattle.mg_model.specs.LineEvents.{LineRow, new_line, cleared}
 use Rattle.mg_model.specs.Members.{is_among}
 use Rattle.mg_model.specs.Messages.{RequestCommand}
-use Rattle.mg_model.specs.RequestRun.{LineDescriptors, RaisedNote, Running, Succeeds, Fails, on_line, descriptors_for, described_row, note_from, with_descriptors, has_new_events}
+use Rattle.mg_model.specs.RequestRun.{LineDescriptors, RaisedNote, Running, Succeeds, Fails, item_at, on_line, descriptors_for, described_row, note_from, with_descriptors, has_new_events}
 use Rattle.requests.specs.declared.outcome.LineNote.{LineNote}
 use Rattle.requests.specs.declared.progress.Progress.{Progress}
 use Rattle.requests.specs.Connected.{has_line, end_in}
@@ -80,3 +80,10 @@ IsStep r command place refusal number next (Some code) = Fails r command place r
 -- the identifiers that were created
 abbrev pub created : Done → Option ℕ × Option ℕ
 created done = (done.context, done.ephemeral)
+
+-- a command that had a result is executed once more, by the results before it, and creates the same identifiers
+pub record IsRepeated (b : Board) (rows : ℕ → LineRow) (command : RequestCommand) (before : List Done) (had : Done) (number : ℕ) (after : Board) (left : ℕ → LineRow) : Type 0 where
+  pub done : Done
+  pub executed : IsExecuted b (item_at before command) after done
+  pub same : created done ≡ created had
+  pub rows_are : left ≡ row_in done.lines (described_line command) rows number

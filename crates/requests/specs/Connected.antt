@@ -58,6 +58,13 @@ pub record Ends (start : Connected) (request : Request) (refusal : Option Chosen
   pub runs : RunsFrom request.number refusal (start_in start) 0 request.commands (record { board = board; line = line_in ended; results = results; notes = notes }) failure
   pub is_settled : IsSettled board (board_in ended)
 
+-- a request that runs from a start has these results
+pub record HasResults (start : Connected) (request : Request) (refusal : Option ChosenRefusal) (results : List Done) : Type 0 where
+  pub end : Running
+  pub failure : Option Failure
+  pub runs : RunsFrom request.number refusal (start_in start) 0 request.commands end failure
+  pub results_are : end.results ≡ results
+
 -- ---- what happens on a line
 
 -- what is answered; nothing happens on a line that isn't there

@@ -1,6 +1,6 @@
 //! The connections of a gateway.
 ghost use Rattle.std.specs.Prelude.{◌≡◌, ℕ, ◌<◌, Some, option_map, unwrap_or, map, IfOk, OnOk, IfErr, OnErr};
-ghost use Rattle.mg_model.specs.Items.{IsExecuted};
+ghost use Rattle.mg_model.specs.Items.{IsLegal, IsExecuted};
 ghost use Rattle.mg_model.specs.LineEvents.{new_line};
 ghost use Rattle.mg_model.specs.RequestRun.{IsRefusedWith};
 ghost use Rattle.mg_model.specs.Board.{IsSettled};
@@ -152,6 +152,16 @@ impl Connections {
         ensures lines { line_in self.new ≡ line_in self.old }
     {
         self.board.exec(item)
+    }
+
+    /// A command that is legal, on the connection model.
+    pub(crate) fn carry_out(&mut self, item: &Item) -> Result<Done, AllocError>
+        requires { IsLegal (board_in self.old) item.now }
+        ensures executed { IfOk result (IsExecuted (board_in self.old) item.now (board_in self.new)) }
+        ensures unchanged { OnErr result (board_in self.new ≡ board_in self.old) }
+        ensures lines { line_in self.new ≡ line_in self.old }
+    {
+        self.board.carry_out(item)
     }
 
     /// A request has ended: from now on the numbers of contexts and ephemerals that are no more may be given again.

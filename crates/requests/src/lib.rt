@@ -6,6 +6,7 @@ mod command;
 mod connections;
 mod descriptors;
 mod event;
+mod follow;
 mod idle;
 mod items;
 mod message_id;

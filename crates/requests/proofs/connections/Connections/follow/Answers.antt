@@ -1,20 +1,22 @@
-use Rattle.std.proofs.Common.{◌≡◌, ◌∙◌, sym, ap, refl, rules, map, subst}
-use Rattle.mg_model.specs.Board.{Board, IsSettled}
-use Rattle.mg_model.specs.RequestRun.{Running}
-use Rattle.mg_model.proofs.Settled.{settled_same}
-use Rattle.requests.specs.Commands.{created}
-use Rattle.requests.specs.Connected.{board_in, line_in, start_in}
-use Rattle.requests.specs.Views.{line_notes}
-use Rattle.requests.proofs.SameLemmas.{same_end, IsAlike}
+use Rattle.std.proofs.Common.{ℕ, subst, take, rules}
+use Rattle.requests.specs.Commands.{IsRepeated}
+use Rattle.requests.specs.Connected.{board_in, line_in}
+use Rattle.requests.specs.Views.{command_of}
+use Rattle.requests.proofs.FollowLemmas.{has_command, is_legal, goes_on_so, ends_so}
 use Rattle.requests.proofs.connections.Connections.follow.Goals as goal
 
+pub bounds-commands-place : goal.bounds-commands-place
+bounds-commands-place c = has_command _ _ _ _ _ _ _ _ _ c.loop-place.invariant c.loop-place-test.true
+
+pub repeat-requires : goal.repeat-requires
+repeat-requires c = is_legal _ _ _ _ _ _ _ _ _ c.loop-place.invariant c.loop-place-test.true c.index-commands-place.result (search rules)
+
+pub loop-place-preserved : goal.loop-place-preserved
+loop-place-preserved c =
+    goes_on_so _ _ _ _ _ _ _ _ _ c.loop-place.invariant c.loop-place-test.true c.index-commands-place.result (search rules) c.index-results-place.result (search rules) _ _
+    (subst (λ (number : ℕ). IsRepeated (board_in c.loop-place.connections) (line_in c.loop-place.connections) (command_of c.index-commands-place.result)
+    (take c.loop-place.place c.args.results.now) c.index-results-place.result number (board_in c.repeat.new.self) (line_in c.repeat.new.self)) c.number-number.ensures
+    (c.if-not-repeat.ensures (search rules)))
+
 pub returns : goal.returns
-returns c = λ e failure settled runs results_are is_settled.
-    let same = sym (ap (λ ds. map created ds) c.as_slice.ensures.value) ∙ c.if-not-are_same_created.ensures (search rules)
-    ∙ ap (λ ds. map created ds) (sym results_are) in
-    let start : IsAlike (start_in c.args.self) (start_in c.args.self) = record { board = refl; line = refl; created = refl } in
-    let ends = c.in-Ok.ensures in
-    let end : Running = record { board = ends.board; line = line_in c.in-Ok.connections; results = c.in-Ok.again.results.items; notes = line_notes c.in-Ok.again.notes.items } in
-    let alike = same_end c.args.request.now.number c.args.chosen (start_in c.args.self) (start_in c.args.self) 0 c.args.request.now.commands
-    end e c.in-Ok.again.failure failure start ends.runs runs same in
-    (settled_same e.board (board_in c.in-Ok.connections) settled (subst (λ (b : Board). IsSettled b (board_in c.in-Ok.connections)) alike.board ends.is_settled) is_settled, alike.line)
+returns c = ends_so _ _ _ _ _ _ _ _ _ c.loop-place.invariant c.loop-place-test.false c.settle.new.self c.settle.ensures.board c.settle.ensures.lines
