@@ -29,7 +29,7 @@ none_in_all number (history ∷ more) none =
     ap (λ (events : List Event). events ++ flat_map (within number) more) (none 0) ∙ none_in_all number more (λ i. none (suc i))
 
 -- all others have none
-alone_in_all : (number k : ℕ) (histories : List (List Event)) → ((i : ℕ) → (i ≡ k → ⊥) → within number (slice_index_or histories i []) ≡ [])
+pub alone_in_all : (number k : ℕ) (histories : List (List Event)) → ((i : ℕ) → (i ≡ k → ⊥) → within number (slice_index_or histories i []) ≡ [])
     → flat_map (within number) histories ≡ within number (slice_index_or histories k [])
 alone_in_all number k [] alone = refl
 alone_in_all number zero (history ∷ more) alone =

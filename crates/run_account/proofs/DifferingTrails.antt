@@ -1,15 +1,13 @@
--- Where the walk along the trails stops, the histories aren't what the calls went through.
-use Rattle.std.proofs.Common.{◌≡◌, ◌∙◌, ◌+◌, ◌<◌, ◌≤◌, ◌++◌, inl, inr, ℕ, zero, suc, Bool, true, List, [], ◌∷◌, Some, length, take, drop, get_or, replicate, if◌then◌else◌, refl, sym, ap, subst, add-one, drop-cons, arith}
+-- Where the walk of a shard along the trails stops, its history isn't what its calls went through; where it doesn't stop before their ends, it is.
+use Rattle.std.proofs.Common.{◌≡◌, ◌∙◌, ◌+◌, ◌<◌, ◌≤◌, ◌++◌, ◌⊎◌, inl, inr, ℕ, zero, suc, Bool, true, false, List, [], ◌∷◌, Some, length, take, drop, get_or, replicate, if◌then◌else◌, refl, sym, ap, subst, add-one, drop-cons, arith}
 use Rattle.std.specs.Prelude.{◌%◌, slice_get, slice_index_or}
-use Rattle.std.specs.List.{flat_map}
 use Rattle.std.proofs.lemmas.Bool.{eq-eqb}
-use Rattle.std.proofs.lemmas.Grind.{flat_map-append}
-use Rattle.std.proofs.lemmas.List.{append_assoc, length-append, length-take-le, take-append-drop}
+use Rattle.std.proofs.lemmas.List.{length-append, take-append-drop}
 use Rattle.std.proofs.lemmas.List.Elements.{filter-append}
 use Rattle.mg_model.specs.declared.events.Event.{Event}
 use Rattle.mg_model.specs.declared.events.Event.TheVariants.{OfCall, Restart}
 use Rattle.mg_model.specs.Numbers.{plan_calls}
-use Rattle.run_account.specs.Comparing.{Agree, Differ, FollowAll, Follows, IsAtEnd, StrayAmong, Strays, StraysIn, place_at, trail_at}
+use Rattle.run_account.specs.Comparing.{AgreesIn, DiffersIn, Follows, IsAtEnd, IsCompared, Strays, StraysIn, place_at, trail_at}
 use Rattle.run_account.specs.Runs.{is_within, within}
 
 -- ---- places in lists
@@ -26,10 +24,6 @@ pub none_yet : (n number : ℕ) → place_at (replicate n 0) number ≡ 0
 none_yet zero number = refl
 none_yet (suc n) zero = refl
 none_yet (suc n) (suc number) = none_yet n number
-
-at_front : (front : List (List Event)) (history : List Event) (back : List (List Event)) → slice_index_or (front ++ history ∷ back) (length front) [] ≡ history
-at_front [] history back = refl
-at_front (first ∷ front) history back = at_front front history back
 
 behind : (before : List Event) (event : Event) (after : List Event) → slice_get (before ++ event ∷ after) (length before) ≡ Some event
 behind [] event after = refl
@@ -71,19 +65,6 @@ within_parts number history before after event parts is =
     ∙ filter-append (is_within number) before (event ∷ after)
     ∙ ap (λ (test : Bool). within number before ++ (if test then event ∷ within number after else within number after)) is
 
-in_all : (number : ℕ) (histories front back : List (List Event)) (history before after : List Event) (event : Event) → histories ≡ front ++ history ∷ back
-    → history ≡ before ++ event ∷ after → is_within number event ≡ true
-    → flat_map (within number) histories
-    ≡ (flat_map (within number) front ++ within number before) ++ event ∷ (within number after ++ flat_map (within number) back)
-in_all number histories front back history before after event parts splits is =
-    ap (flat_map (within number)) parts
-    ∙ flat_map-append (within number) front (history ∷ back)
-    ∙ ap (λ (events : List Event). flat_map (within number) front ++ (events ++ flat_map (within number) back))
-    (within_parts number history before after event splits is)
-    ∙ ap (λ (events : List Event). flat_map (within number) front ++ events)
-    (append_assoc (within number before) (event ∷ within number after) (flat_map (within number) back))
-    ∙ sym (append_assoc (flat_map (within number) front) (within number before) (event ∷ (within number after ++ flat_map (within number) back)))
-
 -- ---- what strays, at its place
 
 pub stray_at : (count shard : ℕ) (history : List Event) (trails : List (List Event)) (old places : List ℕ) (i : ℕ) (d : Event) → i < length history
@@ -99,70 +80,59 @@ stray_at count shard history trails old places i d within followed strays = reco
   strays = strays;
 }
 
-pub among_at : (count : ℕ) (histories trails : List (List Event)) (old places : List ℕ) (i : ℕ) (history : List Event) → i < length histories
-    → history ≡ get_or histories i [] → FollowAll count (take i histories) trails old places → StraysIn count i history trails places
-    → StrayAmong count histories trails old
-among_at count histories trails old places i history within is followed strays = record {
-  front = take i histories;
-  history = history;
-  back = drop (i + 1) histories;
-  places = places;
-  parts = split_at histories i [] within ∙ ap (λ (one : List Event). take i histories ++ one ∷ drop (i + 1) histories) (sym is);
-  followed = followed;
-  strays = subst (λ (n : ℕ). StraysIn count n history trails places) (sym (length-take-le i histories (omega (arith, within)))) strays;
-}
+-- ---- the walk of a shard, from where nothing was gone along
 
--- ---- the walk, from where nothing was gone along
-
-module _ (count : ℕ) (trails : List (List Event)) (old : List ℕ) (begin : (number : ℕ) → place_at old number ≡ 0) where
-  so_far : (number : ℕ) (histories : List (List Event)) (places : List ℕ) → FollowAll count histories trails old places
-      → take (place_at places number) (trail_at trails number) ≡ flat_map (within number) histories
-  so_far number histories places followed =
+module _ (count shard : ℕ) (trails : List (List Event)) (old : List ℕ) (begin : (number : ℕ) → place_at old number ≡ 0) where
+  so_far : (number : ℕ) (history : List Event) (places : List ℕ) → Follows count shard history trails old places
+      → take (place_at places number) (trail_at trails number) ≡ within number history
+  so_far number history places followed =
       followed.followed number
-      ∙ ap (λ (place : ℕ). take place (trail_at trails number) ++ flat_map (within number) histories) (begin number)
+      ∙ ap (λ (place : ℕ). take place (trail_at trails number) ++ within number history) (begin number)
 
   -- where they agree, the event behind those that were gone along is the next one of its trail
-  is_next : (number : ℕ) (histories front back : List (List Event)) (history before after : List Event) (event : Event) (between places : List ℕ)
-      → histories ≡ front ++ history ∷ back → history ≡ before ++ event ∷ after → is_within number event ≡ true → FollowAll count front trails old between
-      → Follows count (length front) before trails between places → Agree count histories trails
+  is_next : (number : ℕ) (history before after : List Event) (event : Event) (places : List ℕ) → history ≡ before ++ event ∷ after
+      → is_within number event ≡ true → number % count ≡ shard → Follows count shard before trails old places → AgreesIn count shard history trails
       → slice_get (trail_at trails number) (place_at places number) ≡ Some event
-  is_next number histories front back history before after event between places parts splits is followed follows agree =
-      next_there (trail_at trails number) (flat_map (within number) front ++ within number before) (place_at places number) event
-      (within number after ++ flat_map (within number) back)
-      (agree.whole number ∙ in_all number histories front back history before after event parts splits is)
-      (follows.followed number ∙ ap (λ (events : List Event). events ++ within number before) (so_far number front between followed))
+  is_next number history before after event places parts is own follows agrees =
+      next_there (trail_at trails number) (within number before) (place_at places number) event (within number after)
+      (agrees.whole number own ∙ within_parts number history before after event parts is)
+      (so_far number before places follows)
 
-  pub stray_differs : (histories : List (List Event)) → StrayAmong count histories trails old → Differ count histories trails
-  stray_differs histories stray = by_event stray.strays.event stray.strays.parts stray.strays.strays
+  -- where they agree, an event is of a call of this shard
+  is_own : (number : ℕ) (history before after : List Event) (event : Event) → history ≡ before ++ event ∷ after
+      → is_within number event ≡ true → AgreesIn count shard history trails → (number % count ≡ shard → ⊥) → ⊥
+  is_own number history before after event parts is agrees other =
+      some_there (within number before) event (within number after)
+      (sym (within_parts number history before after event parts is) ∙ agrees.own number other)
+
+  pub stray_differs : (history : List Event) → StraysIn count shard history trails old → DiffersIn count shard history trails
+  stray_differs history stray = by_event stray.event stray.parts stray.strays
     where
-      by_event : (event : Event) → stray.history ≡ stray.strays.before ++ event ∷ stray.strays.after
-          → Strays count (length stray.front) event trails stray.strays.places → Differ count histories trails
-      by_event Restart splits never = absurd never
-      by_event (OfCall call happens) splits (inl none) = inr (inl none)
-      by_event (OfCall call happens) splits (inr (inl other)) =
+      by_event : (event : Event) → history ≡ stray.before ++ event ∷ stray.after
+          → Strays count shard event trails stray.places → DiffersIn count shard history trails
+      by_event Restart parts never = absurd never
+      by_event (OfCall call happens) parts (inl none) = inr (inl none)
+      by_event (OfCall call happens) parts (inr (inl other)) =
+          let number = call.0 % plan_calls in
+          inl (λ agrees. is_own number history stray.before stray.after (OfCall call happens) parts (eq-eqb number number refl) agrees other)
+      by_event (OfCall call happens) parts (inr (inr (inl not_next))) =
           let number = call.0 % plan_calls in
           let is : is_within number (OfCall call happens) ≡ true = eq-eqb number number refl in
-          inl (λ agree. some_there (within number stray.strays.before) (OfCall call happens) (within number stray.strays.after)
-          (sym (within_parts number stray.history stray.strays.before stray.strays.after (OfCall call happens) splits is)
-          ∙ ap (within number) (sym (ap (λ (histories : List (List Event)). slice_index_or histories (length stray.front) []) stray.parts
-          ∙ at_front stray.front stray.history stray.back))
-          ∙ agree.own number (length stray.front) other))
-      by_event (OfCall call happens) splits (inr (inr (inl not_next))) =
-          let number = call.0 % plan_calls in
-          inl (λ agree. not_next (is_next number histories stray.front stray.back stray.history stray.strays.before stray.strays.after (OfCall call happens)
-          stray.places stray.strays.places stray.parts splits (eq-eqb number number refl) stray.followed stray.strays.followed agree))
-      by_event (OfCall call happens) splits (inr (inr (inr long))) = inr (inr (call.0 % plan_calls, long))
+          inl (λ agrees. is_own number history stray.before stray.after (OfCall call happens) parts is agrees
+          (λ own. not_next (is_next number history stray.before stray.after (OfCall call happens) stray.places parts is own stray.followed agrees)))
+      by_event (OfCall call happens) parts (inr (inr (inr long))) = inr (inr (call.0 % plan_calls, long))
 
-  pub end_differs : (histories : List (List Event)) (places : List ℕ) → FollowAll count histories trails old places → (IsAtEnd trails places → ⊥)
-      → Differ count histories trails
-  end_differs histories places followed no_end =
-      inl (λ agree. no_end (λ number below. all_taken (place_at places number) (trail_at trails number)
-      (so_far number histories places followed ∙ sym (agree.whole number))))
+  pub end_differs : (history : List Event) (places : List ℕ) → Follows count shard history trails old places
+      → (count ≡ 0) ⊎ (IsAtEnd count shard trails places → ⊥) → DiffersIn count shard history trails
+  end_differs history places followed (inl none) = inr (inl none)
+  end_differs history places followed (inr no_end) =
+      inl (λ agrees. no_end (λ number below own. all_taken (place_at places number) (trail_at trails number)
+      (so_far number history places followed ∙ sym (agrees.whole number own))))
 
-  pub ends_agree : (histories : List (List Event)) (places : List ℕ) → FollowAll count histories trails old places → IsAtEnd trails places
-      → Agree count histories trails
-  ends_agree histories places followed at_end = record {
-    whole = λ number. sym (take_whole (place_at places number) trails number (at_end number)) ∙ so_far number histories places followed;
+  pub end_agrees : (history : List Event) (places : List ℕ) → Follows count shard history trails old places → IsAtEnd count shard trails places
+      → AgreesIn count shard history trails
+  end_agrees history places followed at_end = record {
+    whole = λ number own. sym (take_whole (place_at places number) trails number (λ below. at_end number below own)) ∙ so_far number history places followed;
     own = followed.own;
   }
     where
@@ -177,3 +147,10 @@ module _ (count : ℕ) (trails : List (List Event)) (old : List ℕ) (begin : (n
       take_whole place [] number long = take_long place [] (omega arith)
       take_whole place (trail ∷ more) zero long = take_long place trail (long (omega arith))
       take_whole place (trail ∷ more) (suc number) long = take_whole place more number (λ below. long (omega (arith, below)))
+
+  -- what the walk answers, at its end
+  pub end_compared : (history : List Event) (places : List ℕ) → Follows count shard history trails old places → (at_end : Bool)
+      → (at_end ≡ true → IsAtEnd count shard trails places) → (at_end ≡ false → (count ≡ 0) ⊎ (IsAtEnd count shard trails places → ⊥))
+      → IsCompared count shard history trails at_end
+  end_compared history places followed true ends goes_on = end_agrees history places followed (ends refl)
+  end_compared history places followed false ends goes_on = end_differs history places followed (goes_on refl)

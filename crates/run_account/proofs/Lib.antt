@@ -1,6 +1,7 @@
 pub mod AgreedTrails
 pub mod ApartParts
 pub mod CallReports
+pub mod ComparedShards
 pub mod CountLemmas
 pub mod CountedReports
 pub mod DifferingTrails
@@ -9,7 +10,7 @@ pub mod FinalLines
 pub mod FinalRuns
 pub mod FinishedRuns
 pub mod FinishedShards
-pub mod FollowedTrails
+pub mod LeftHistories
 pub mod MergedAssociations
 pub mod MergedParts
 pub mod MergedPlaces

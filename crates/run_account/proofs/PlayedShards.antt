@@ -11,7 +11,6 @@ use Rattle.mg_model.specs.Plans.{Plan, PlanCall, epochs_of, restarts_of_all}
 use Rattle.mg_model.specs.Script.{Script}
 use Rattle.mg_model.specs.Shards.{Shard, restarts_in}
 use Rattle.mg_model.specs.World.{IsOpening, Opened, Runs}
-use Rattle.mg_reports.specs.Logs.{LogRuns}
 use Rattle.identifiers.specs.Class.{is_of_class}
 use Rattle.run_shards.specs.Shards.{IsWorldOf, ShardValue, opened_as}
 use Rattle.run_shards.specs.RunShards.{AreOfRun, IsOfRun}

@@ -1,6 +1,6 @@
 -- What the shards keep beside what the calls went through. A reader should check that a call's events stand in the history of its own shard alone, each once
 -- and in order, that nothing else stands there, and that where they are said to differ they do.
-use Rattle.std.specs.Prelude.{◌≡◌, ℕ, ◌%◌, ◌<◌, ◌≤◌, ◌⊎◌, List, [], ◌∷◌, ◌++◌, length, take, map, Some, slice_get, slice_index_or}
+use Rattle.std.specs.Prelude.{◌≡◌, ℕ, ◌%◌, ◌<◌, ◌≤◌, ◌⊎◌, Bool, true, false, List, [], ◌∷◌, ◌++◌, length, take, map, Some, slice_get, slice_index_or}
 use Rattle.std.specs.List.{flat_map}
 use Rattle.mg_model.specs.declared.events.Event.{Event}
 use Rattle.mg_model.specs.declared.events.Event.TheVariants.{OfCall, Restart}
@@ -30,21 +30,20 @@ pub record Follows (count shard : ℕ) (history : List Event) (trails : List (Li
   pub followed : (number : ℕ) → take (place_at new number) (trail_at trails number) ≡ take (place_at old number) (trail_at trails number) ++ within number history
   pub own : (number : ℕ) → (number % count ≡ shard → ⊥) → within number history ≡ []
 
--- the histories of the first shards go on so, one after the other
-pub record FollowAll (count : ℕ) (histories trails : List (List Event)) (old new : List ℕ) : Type 0 where
-  pub all_places : length new ≡ length old
-  pub followed : (number : ℕ) → take (place_at new number) (trail_at trails number)
-      ≡ take (place_at old number) (trail_at trails number) ++ flat_map (within number) histories
-  pub own : (number shard : ℕ) → (number % count ≡ shard → ⊥) → within number (slice_index_or histories shard []) ≡ []
-
 -- each trail is what the histories have of its call, and they have it in one of them
 pub record Agree (count : ℕ) (histories trails : List (List Event)) : Type 0 where
   pub whole : (number : ℕ) → trail_at trails number ≡ flat_map (within number) histories
   pub own : (number shard : ℕ) → (number % count ≡ shard → ⊥) → within number (slice_index_or histories shard []) ≡ []
 
--- no trail goes on behind its place
-abbrev pub IsAtEnd : List (List Event) → List ℕ → Type 0
-IsAtEnd trails places = (number : ℕ) → number < length trails → length (trail_at trails number) ≤ place_at places number
+-- the history of a shard has each trail of its calls, and nothing of calls that stand in other shards
+pub record AgreesIn (count shard : ℕ) (history : List Event) (trails : List (List Event)) : Type 0 where
+  pub whole : (number : ℕ) → number % count ≡ shard → trail_at trails number ≡ within number history
+  pub own : (number : ℕ) → (number % count ≡ shard → ⊥) → within number history ≡ []
+
+-- no trail of a shard's calls goes on behind its place
+abbrev pub IsAtEnd : (count shard : ℕ) → List (List Event) → List ℕ → Type 0
+IsAtEnd count shard trails places =
+    (number : ℕ) → number < length trails → number % count ≡ shard → length (trail_at trails number) ≤ place_at places number
 
 -- ---- where they don't agree
 
@@ -73,15 +72,15 @@ pub record StraysIn (count shard : ℕ) (history : List Event) (trails : List (L
   pub followed : Follows count shard before trails old places
   pub strays : Strays count shard event trails places
 
--- some event of some shard strays, behind the shards that were gone along
-pub record StrayAmong (count : ℕ) (histories trails : List (List Event)) (old : List ℕ) : Type 0 where
-  pub front : List (List Event)
-  pub history : List Event
-  pub back : List (List Event)
-  pub places : List ℕ
-  pub parts : histories ≡ front ++ history ∷ back
-  pub followed : FollowAll count front trails old places
-  pub strays : StraysIn count (length front) history trails places
+-- the history of a shard isn't what its calls went through; or there are no shards; or a trail is longer than places can be counted
+abbrev pub DiffersIn : (count shard : ℕ) → (history : List Event) → (trails : List (List Event)) → Type 0
+DiffersIn count shard history trails =
+    (AgreesIn count shard history trails → ⊥) ⊎ ((count ≡ 0) ⊎ ((number : ℕ) × (last_place < length (trail_at trails number))))
+
+-- what a shard answers
+abbrev pub IsCompared : (count shard : ℕ) → (history : List Event) → (trails : List (List Event)) → (agrees : Bool) → Type 0
+IsCompared count shard history trails true = AgreesIn count shard history trails
+IsCompared count shard history trails false = DiffersIn count shard history trails
 
 -- the histories aren't what the calls went through; or there are no shards, in one of which each call would stand; or a trail is longer than places can be counted
 abbrev pub Differ : (count : ℕ) → (histories trails : List (List Event)) → Type 0

@@ -2,7 +2,13 @@
 -- reader should check that a history that is used up has empty parts only. This profile's own.
 use Rattle.std.specs.Prelude.{◌≡◌, ℕ, suc, List, [], ◌∷◌, ◌++◌, drop, map, slice_index_or}
 use Rattle.mg_model.specs.declared.events.Event.{Event}
-use Rattle.mg_model.specs.Shards.{cut_at_restarts, together}
+use Rattle.mg_model.specs.Shards.{cut_at_restarts, merged, together}
+
+-- ---- the whole
+
+-- one history of several: association by association, in each one history after the other, and one restart between two
+abbrev pub one_history : (histories : List (List Event)) → (restarts : ℕ) → List Event
+one_history histories restarts = merged (map cut_at_restarts histories) restarts
 
 -- ---- parts
 

@@ -1,8 +1,10 @@
-//! What the shards keep beside what the calls went through: one walk through each history, with a place in the transcripts of each call.
-ghost use Rattle.std.specs.Prelude.{◌≡◌, ◌∷◌, [], ◌++◌, ◌≤◌, false, IfNone, IfOk, IfSome, IsTrue, OnOk, length, map, nat_le, slice_get, take};
+//! What the shards keep beside what the calls went through: one walk through each history, with a place in the transcripts of each call. A shard has nothing of
+//! the calls of another one, so threads walk.
+ghost use Rattle.std.specs.Prelude.{◌≡◌, ◌∷◌, ◌⊎◌, [], ◌++◌, ◌≤◌, false, IfNone, IfOk, IfSome, IsTrue, OnOk, length, map, nat_le, slice_get, slice_index_or, take};
+ghost use Rattle.std.specs.List.{range_with_len, AllZip};
 ghost use Rattle.mg_model.specs.Shards.{restarts_in};
 ghost use Rattle.mg_merge.specs.Identifiers.{executes_in, executes_of};
-ghost use Rattle.run_account.specs.Comparing.{Agree, Differ, FollowAll, Follows, IsAtEnd, IsNotNext, StrayAmong, Strays, StraysIn, restarts_of, trails_of};
+ghost use Rattle.run_account.specs.Comparing.{Agree, Differ, Follows, IsAtEnd, IsCompared, IsNotNext, Strays, StraysIn, restarts_of, trails_of};
 ghost use Rattle.run_shards.specs.Taking.{trail_of};
 ghost use Rattle.run_shards.specs.Parts.{of_call};
 ghost use Rattle.agent.specs.Calls.{value_of};
@@ -10,8 +12,10 @@ ghost use Rattle.agent.specs.Calls.{value_of};
 use agent::Next;
 use mg_model::events::{CallEvent, Event};
 use mg_names::identifiers::CallNo;
+use rayon::prelude::*;
 use run_shards::{PLAN_CALLS, PlannedCall, Shard};
 use std::alloc::{AllocError, Global};
+use std::thread::Threads;
 
 /// 1 for a restart, and 0 for an event of a call.
 fn restarts_of(event: &Event) -> usize
@@ -165,55 +169,97 @@ fn follow(
     true
 }
 
-/// Goes along the transcripts by the histories of these shards, which are the first ones.
-fn follow_all(
-    count: u32,
-    shards: &[Shard<'_>],
-    planned_calls: &[PlannedCall<'_>],
-    places: &mut [usize],
-) -> bool
-    requires { length places.old ≡ length planned_calls.now }
-    ensures follow { IsTrue result → FollowAll count (map (λ v. v.history) shards.now) (trails_of planned_calls.now) places.old places.new }
-    ensures stray { result ≡ false → StrayAmong count (map (λ v. v.history) shards.now) (trails_of planned_calls.now) places.old }
-{
-    for (number, shard) in shards.iter().enumerate() {
-        if !follow(count, number, shard.history(), planned_calls, places) {
-            return false;
-        }
-    }
-    true
-}
-
-/// Whether no transcript goes on where the histories end.
-fn all_at_end(planned_calls: &[PlannedCall<'_>], places: &[usize]) -> bool
+/// Whether no transcript of a call of a shard goes on where its history ends. No, where there are calls and no shards.
+fn are_at_end(count: u32, shard: usize, planned_calls: &[PlannedCall<'_>], places: &[usize]) -> bool
     requires { length places.now ≡ length planned_calls.now }
-    ensures yes { IsTrue result → IsAtEnd (trails_of planned_calls.now) places.now }
-    ensures no { result ≡ false → IsAtEnd (trails_of planned_calls.now) places.now → ⊥ }
+    ensures yes { IsTrue result → IsAtEnd count shard (trails_of planned_calls.now) places.now }
+    ensures no { result ≡ false → (count ≡ 0) ⊎ (IsAtEnd count shard (trails_of planned_calls.now) places.now → ⊥) }
 {
     for (number, planned) in planned_calls.iter().enumerate() {
+        let Some(own) = number.checked_rem(count as usize) else {
+            return false;
+        };
         let Some(place) = places.get(number) else {
             return false;
         };
-        if !ends_at(planned, *place) {
+        if own == shard && !ends_at(planned, *place) {
             return false;
         }
     }
     true
 }
 
-/// Whether the histories of all shards, so many, are what the calls went through. `AllocError` where memory ran out.
-pub(crate) fn agree(
+/// What happened in the shard at a place; nothing, where there is none.
+fn history_at<'a>(shards: &'a [Shard<'_>], place: usize) -> &'a [Event]
+    ensures { result.now ≡ slice_index_or (map (λ v. v.history) shards.now) place [] }
+{
+    match shards.get(place) {
+        Some(shard) => shard.history(),
+        None => &[],
+    }
+}
+
+/// Whether the history of the shard at a place is what its calls went through. `AllocError` where memory ran out.
+fn shard_agrees(
     alloc: Global,
+    count: u32,
+    place: usize,
+    shards: &[Shard<'_>],
+    planned_calls: &[PlannedCall<'_>],
+) -> Result<bool, AllocError>
+    ensures { IfOk result (IsCompared count place (slice_index_or (map (λ v. v.history) shards.now) place []) (trails_of planned_calls.now)) }
+{
+    let mut places = Vec::from_elem(alloc, 0usize, planned_calls.len())?;
+    let history = history_at(shards, place);
+    if !follow(count, place, history, planned_calls, places.as_mut_slice()) {
+        return Ok(false);
+    }
+    Ok(are_at_end(count, place, planned_calls, places.as_slice()))
+}
+
+/// The answer of each shard, asked by at most as many threads as there are workers, as far as threads can be made. `AllocError` where memory ran out.
+fn all_answers<R: Threads + Sync>(
+    rt: &R,
+    alloc: Global,
+    workers: usize,
+    count: u32,
+    shards: &[Shard<'_>],
+    planned_calls: &[PlannedCall<'_>],
+) -> Result<Vec<bool>, AllocError>
+    ensures { IfOk result (λ answers. AllZip (λ place agrees. IsCompared count place (slice_index_or (map (λ v. v.history) shards.now) place []) (trails_of planned_calls.now) agrees) (range_with_len 0 (length shards.now)) answers.items) }
+{
+    let all = shards.len();
+    // Of parts as large as this the shards have at most as many as there are workers.
+    let least = all / workers.saturating_add(1) + 1;
+    let answers = (0..all)
+        .into_par_iter()
+        .with_min_len(least)
+        .map(
+            |place: usize| -> Result<bool, AllocError>
+                ensures { IfOk result (IsCompared count place (slice_index_or (map (λ v. v.history) shards.entry.now) place []) (trails_of planned_calls.entry.now)) }
+            { shard_agrees(alloc, count, place, shards, planned_calls) },
+        )
+        .collect(rt, alloc)?;
+    answers
+}
+
+/// Whether the histories of all shards, so many, are what the calls went through: asked for each shard by itself, by at most as many threads as there are
+/// workers. `AllocError` where memory ran out.
+pub(crate) fn agree<R: Threads + Sync>(
+    rt: &R,
+    alloc: Global,
+    workers: usize,
     count: u32,
     shards: &[Shard<'_>],
     planned_calls: &[PlannedCall<'_>],
 ) -> Result<bool, AllocError>
+    requires { length shards.now ≡ count }
     ensures agree { IfOk result (λ yes. IsTrue yes → Agree count (map (λ v. v.history) shards.now) (trails_of planned_calls.now)) }
     ensures differ { IfOk result (λ yes. yes ≡ false → Differ count (map (λ v. v.history) shards.now) (trails_of planned_calls.now)) }
 {
-    let mut places = Vec::from_elem(alloc, 0usize, planned_calls.len())?;
-    if !follow_all(count, shards, planned_calls, places.as_mut_slice()) {
+    if shards.is_empty() {
         return Ok(false);
     }
-    Ok(all_at_end(planned_calls, places.as_slice()))
+    let answers = all_answers(rt, alloc, workers, count, shards, planned_calls)?;
+    Ok(!answers.as_slice().contains(&false))
 }

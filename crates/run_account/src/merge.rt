@@ -1,7 +1,6 @@
 //! One history of several, each of which is cut at its restarts.
 ghost use Rattle.std.specs.Prelude.{◌≡◌, drop, length, map, IfOk, OnOk};
-ghost use Rattle.mg_model.specs.Shards.{cut_at_restarts, merged};
-ghost use Rattle.run_account.specs.Merging.{ArePartsPushed, IsPartPushed, left_from};
+ghost use Rattle.run_account.specs.Merging.{ArePartsPushed, IsPartPushed, left_from, one_history};
 
 use mg_model::events::Event;
 use std::alloc::{AllocError, Global};
@@ -25,21 +24,20 @@ fn push_part(events: &mut Vec<Event>, history: &[Event], place: usize) -> Result
 /// Pushes one association of each history from its place on, one history after the other, and moves the places past it.
 fn push_association(
     events: &mut Vec<Event>,
-    histories: &[&[Event]],
+    histories: &[Vec<Event>],
     places: &mut [usize],
 ) -> Result<(), AllocError>
     requires { length places.old ≡ length histories.now }
-    ensures { let whole = map (λ h. h.now) histories.now in OnOk result (ArePartsPushed events.old.items (left_from places.old whole) events.new.items (left_from places.new whole)) }
+    ensures { let whole = map (λ h. h.items) histories.now in OnOk result (ArePartsPushed events.old.items (left_from places.old whole) events.new.items (left_from places.new whole)) }
 {
     for (index, history) in histories.iter().enumerate() {
-        let history: &[Event] = history;
-        places[index] = push_part(events, history, places[index])?;
+        places[index] = push_part(events, history.as_slice(), places[index])?;
     }
     Ok(())
 }
 
 /// How many events some histories have together, or the greatest number where they have more.
-fn events_in(histories: &[&[Event]]) -> usize {
+fn events_in(histories: &[Vec<Event>]) -> usize {
     let mut events = 0usize;
     for history in histories {
         events = events.saturating_add(history.len());
@@ -49,12 +47,12 @@ fn events_in(histories: &[&[Event]]) -> usize {
 
 /// One history of several: association by association, in each one history after the other, and one restart between two. `AllocError` where memory ran out.
 /// Room is made for all of it once, so that it never doubles.
-pub fn merge(
+pub(crate) fn merge(
     alloc: Global,
-    histories: &[&[Event]],
+    histories: &[Vec<Event>],
     restarts: usize,
 ) -> Result<Vec<Event>, AllocError>
-    ensures { IfOk result (λ merged_events. merged_events.items ≡ merged (map (λ h. cut_at_restarts h.now) histories.now) restarts) }
+    ensures { IfOk result (λ history. history.items ≡ one_history (map (λ h. h.items) histories.now) restarts) }
 {
     let mut events = Vec::with_capacity(alloc, events_in(histories))?;
     let mut places = vec![in alloc; 0usize; histories.len()]?;

@@ -116,7 +116,8 @@ fn all_reports<R: Threads + Sync>(
     ensures not_told { IfErr result (IsBecause (HasNotTold source.now.checked.now.table source.now.totals source.now.shards.now source.now.counts.now source.now.planned_calls.now)) }
 {
     let count = source.totals.plan().calls().len();
-    let least = count.div_ceil(workers.max(1)).max(1);
+    // Of parts as large as this the plan has at most as many as there are workers.
+    let least = count / workers.saturating_add(1) + 1;
     let all = (0..count)
         .into_par_iter()
         .with_min_len(least)

@@ -110,7 +110,7 @@ pub(crate) fn report_facts(
     only: Option<u32>,
 ) -> Result<String, RunFault> {
     let mut out = String::new(alloc);
-    for line in ran.outcome.lines() {
+    for line in ran.outcome.outcome().lines() {
         if !is_told(only, line.call) {
             write_untold(alloc, &mut out, ran.checked.script(), line)?;
         } else if line.begun == 0 {
@@ -136,7 +136,7 @@ fn write_untold(
 /// memory.
 pub(crate) fn lines_alone(alloc: Global, ran: &Ran<'_, '_>) -> Result<String, AllocError> {
     let mut out = String::new(alloc);
-    for line in ran.outcome.lines() {
+    for line in ran.outcome.outcome().lines() {
         write_untold(alloc, &mut out, ran.checked.script(), line)?;
     }
     Ok(out)

@@ -20,9 +20,9 @@ use composition::{Checked, Verdict, check};
 use plans::{Plan, PlanFault};
 use program_rim::status::Status;
 use run_reports::RunFault;
-use run_steps::PassedSteps;
 use run_steps::call_steps::Ran;
-use runner::run;
+use run_steps::{MergedOutcome, PassedSteps};
+use runner::{Outcome, run};
 use std::alloc::{AllocError, Global};
 use std::sync::Wait;
 use std::thread::Threads;
@@ -93,7 +93,7 @@ fn step_members(alloc: Global, only: Option<u32>, ran: &Ran<'_, '_>) -> Result<S
 fn run_value(alloc: Global, only: Option<u32>, ran: &Ran<'_, '_>) -> Result<String, AllocError>
     ensures { IfOk result (λ text. IsReportValue (call_lines ran.now.checked.now.table ran.now.outcome.now.lines) (string_bytes text)) }
 {
-    let lines = quoted_lines(alloc, ran.checked.script(), ran.outcome.lines())?;
+    let lines = quoted_lines(alloc, ran.checked.script(), ran.outcome.outcome().lines())?;
     let more = step_members(alloc, only, ran)?;
     value_of(alloc, lines.as_str(), more.as_str())
 }
@@ -120,7 +120,7 @@ fn outcome_told(
     let (form, only) = asked;
     match form {
         Form::Text => {
-            let report = report_text(alloc, ran.checked.script(), ran.outcome.lines())?;
+            let report = report_text(alloc, ran.checked.script(), ran.outcome.outcome().lines())?;
             let text = format!(in alloc; "{report}{IN_WORDS}")?;
             Ok(reported(text))
         }
@@ -129,6 +129,28 @@ fn outcome_told(
             Ok(reported(text))
         }
     }
+}
+
+/// What is told of a run that ended well and passed these steps.
+fn run_well_told(
+    alloc: Global,
+    asked: (Form, Option<u32>),
+    checked: &Checked,
+    plan: &Plan,
+    outcome: Outcome<'_>,
+    passed: PassedSteps,
+) -> Result<Said, AllocError>
+    ensures { IfOk result (IsUnderReport asked.0 checked.now.table outcome.entry.lines) }
+{
+    let marks = marks_of(alloc, passed, plan)?;
+    let outcome = MergedOutcome::new(alloc, outcome)?;
+    let ran = Ran {
+        checked,
+        plan,
+        outcome: &outcome,
+        marks: marks.as_slice(),
+    };
+    outcome_told(alloc, asked, &ran)
 }
 
 /// What is told of a plan that was read, of a script that is checked. It is run on one worker.
@@ -144,16 +166,7 @@ fn steps_told<R: Threads + Wait + Sync>(
 {
     let passed = PassedSteps::new(alloc);
     match run(rt, alloc, checked, plan, 1, &passed) {
-        Ok(outcome) => {
-            let marks = marks_of(alloc, passed, plan)?;
-            let ran = Ran {
-                checked,
-                plan,
-                outcome: &outcome,
-                marks: marks.as_slice(),
-            };
-            outcome_told(alloc, asked, &ran)
-        }
+        Ok(outcome) => run_well_told(alloc, asked, checked, plan, outcome, passed),
         Err(fault) => unread(alloc, asked.0, &run_reply(fault)),
     }
 }

@@ -6,6 +6,7 @@ ghost use Rattle.run_account.specs.FinalState.{call_of};
 ghost use Rattle.run_steps.specs.CallsTold.{IsCallTold, IsLineTold, event_told, events_told, idle_told, idle_told_in, is_part_of};
 ghost use Rattle.run_steps.specs.Telling.{IsFirst, IsGone, own_steps};
 
+use crate::merged_outcome::MergedOutcome;
 use crate::showing::open_scene;
 use crate::telling::Telling;
 use crate::told_step::ToldStep;
@@ -33,8 +34,8 @@ pub struct Ran<'a, 's> {
     pub checked: &'a Checked,
     /// The plan.
     pub plan: &'a Plan,
-    /// What it came to.
-    pub outcome: &'a Outcome<'s>,
+    /// What it came to, with its history.
+    pub outcome: &'a MergedOutcome<'s>,
     /// The association of the gateways at each step of each call, as `PassedSteps` has it.
     pub marks: &'a [Vec<Assoc>],
 }
@@ -256,6 +257,6 @@ pub fn call_steps(alloc: Global, ran: &Ran<'_, '_>, number: u32) -> Result<CallS
         return Err(RunFault::Disagree);
     };
     let steps = gone(alloc, ran, number, call, marks.as_slice())?;
-    let lines = agreed_lines(alloc, ran.outcome, steps.as_slice(), number)?;
+    let lines = agreed_lines(alloc, ran.outcome.outcome(), steps.as_slice(), number)?;
     Ok(CallSteps { lines, steps })
 }

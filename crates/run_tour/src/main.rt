@@ -1,7 +1,7 @@
 //! `run_tour`: reads a script, its certificate and plans, divided by lines `%%`, runs each plan, and prints a line for each call, or the fault of the run. Its first
 //! word says on how many workers, one where there is none. With a second word, `meet`, calls 1 and 2 wait for each other before their first steps, and a line
-//! says whether they met. With `count` in its place, it prints how many events each run has in place of its lines, for `tools/bench` to time. With `stop` and a
-//! number, workers are stopped at random, by that seed. `stdout` says what it must print for `stdin`. What happened to the call of each line is asked too, once
+//! says whether they met. With `count` in its place, it prints how many events the calls of each run have in place of its lines, for `tools/bench` to time. With
+//! `stop` and a number, workers are stopped at random, by that seed. `stdout` says what it must print for `stdin`. What happened to the call of each line is asked too, once
 //! more where that wanted memory; where memory was wanted elsewhere the status is 4. Functions own little and have few exits, which is what their proofs cost by.
 #![tactic(auto)]
 
@@ -103,10 +103,19 @@ fn tell_lines(rt: &HostRuntime, script: &Script, outcome: &Outcome<'_>) -> End {
     End::Well
 }
 
+/// How many events the calls of a run have in all.
+fn events_of(outcome: &Outcome<'_>) -> usize {
+    let mut events = 0usize;
+    for line in outcome.lines() {
+        events = events.saturating_add(line.events);
+    }
+    events
+}
+
 /// Prints what a run came to.
 fn tell(rt: &HostRuntime, script: &Script, outcome: &Outcome<'_>, is_counted: bool) -> End {
     if is_counted {
-        return printed(println!(rt; "{}", outcome.history().len()));
+        return printed(println!(rt; "{}", events_of(outcome)));
     }
     tell_lines(rt, script, outcome)
 }

@@ -8,7 +8,7 @@ ghost use Rattle.runner.specs.OnlyReport.{IsOnlyReport};
 use composition::Checked;
 use mg_reports::one_report::one_report;
 use plans::Plan;
-use run_account::{CountedShards, Gate, Outcome, PlannedRun, RunFault, finish};
+use run_account::{Gate, Outcome, PlannedRun, RunFault, finish};
 use std::alloc::Global;
 use std::sync::Wait;
 use std::thread::Threads;
@@ -35,11 +35,7 @@ fn go<'s, G: Gate, R: Threads + Wait + Sync>(
 {
     let (played, planned_calls) = run_calls(rt, alloc, checked, plan, workers, gate)?;
     let run = PlannedRun { checked, plan };
-    let counted = CountedShards {
-        shards: played.shards.as_slice(),
-        counts: played.counts.as_slice(),
-    };
-    finish(rt, alloc, run, counted, planned_calls, workers)
+    finish(rt, alloc, run, played, planned_calls, workers)
 }
 
 /// Runs a plan of calls of a checked script, which was read with that script, on 1 to 64 workers, over as many gateways as the plan has shards. Calls pass

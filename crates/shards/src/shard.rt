@@ -63,6 +63,14 @@ impl<'s> Shard<'s> {
         self.history.as_slice()
     }
 
+    /// What happened, the latest last. All else that the shard holds is let go.
+    pub fn into_history(self) -> Vec<Event>
+        ensures { result.items ≡ self.entry.history }
+    {
+        let Shard { history, .. } = self;
+        history
+    }
+
     /// The script of its calls.
     pub fn script(&self) -> &'s Script
         ensures { result.now ≡ self.now.script }

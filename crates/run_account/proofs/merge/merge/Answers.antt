@@ -2,17 +2,16 @@
 use Rattle.std.proofs.Common.{◌≡◌, ◌∙◌, ◌++◌, ◌+◌, ◌-◌, ℕ, List, [], ◌∷◌, drop, take, length, map, sym, ap, subst}
 use Rattle.std.specs.Prelude.{replicate}
 use Rattle.std.proofs.lemmas.List.{length-map, length-replicate}
-use Rattle.std.proofs.lemmas.Simd.{map-map}
 use Rattle.mg_model.specs.declared.events.Event.TheVariants.{Restart}
-use Rattle.mg_model.specs.Shards.{History, cut_at_restarts, merged}
+use Rattle.mg_model.specs.Shards.{cut_at_restarts, merged}
 use Rattle.run_account.specs.Merging.{ArePartsPushed, left_from}
 use Rattle.run_account.proofs.MergedAssociations.{IsMerging, association_merged, last_merged, none_merged, written}
 use Rattle.run_account.proofs.merge.merge.Goals as goal
 
 pub loop-init : goal.loop-init
 loop-init c =
-    let histories = map (λ history. history.now) c.args.histories.now in
-    let sized : length histories ≡ length c.args.histories.now = length-map c.args.histories.now (λ history. history.now) in
+    let histories = map (λ history. history.items) c.args.histories.now in
+    let sized : length histories ≡ length c.args.histories.now = length-map c.args.histories.now (λ history. history.items) in
     let first : c.in_ok-places.places.items ≡ replicate (length c.args.histories.now) 0 = c.in_ok-places.ensures.items_if_clones_equal (λ y same. same) in
     record {
       sized = ap (λ (places : List ℕ). length places) first ∙ length-replicate (length c.args.histories.now) 0;
@@ -22,7 +21,7 @@ loop-init c =
 
 pub loop-preserved : goal.loop-preserved
 loop-preserved c =
-    let histories = map (λ history. history.now) c.args.histories.now in
+    let histories = map (λ history. history.items) c.args.histories.now in
     let all = merged (map cut_at_restarts histories) c.args.restarts in
     let events = c.push_association.new.events.items in
     let new = c.push_association.new.places in
@@ -42,7 +41,7 @@ loop-preserved c =
 
 pub returns : goal.returns
 returns c =
-    let histories = map (λ history. history.now) c.args.histories.now in
+    let histories = map (λ history. history.items) c.args.histories.now in
     let all = merged (map cut_at_restarts histories) c.args.restarts in
     let events = c.push_association-2.new.events.items in
     let new = c.push_association-2.new.places in
@@ -51,4 +50,3 @@ returns c =
     c.in_ok-push_association-2.ensures in
     last_merged all c.loop.events.items events (left_from c.loop.places.items histories) (left_from new histories) c.loop.counter c.args.restarts
     c.loop-test.false pushed c.loop.invariant.so_far
-    ∙ ap (λ (cut : List History). merged cut c.args.restarts) (map-map cut_at_restarts (λ history. history.now) c.args.histories.now)

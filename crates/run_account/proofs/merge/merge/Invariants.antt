@@ -7,7 +7,7 @@ use Rattle.run_account.proofs.merge.merge.Given as goal
 
 abbrev pub invariant-loop : goal.invariant-loop
 invariant-loop l =
-    let histories = map (λ history. history.now) l.histories in
+    let histories = map (λ history. history.items) l.histories in
     record {
       sized : length l.places.items ≡ length l.histories;
       so_far : IsMerging (merged (map cut_at_restarts histories) l.restarts) l.events.items (left_from l.places.items histories) (l.restarts - l.counter);

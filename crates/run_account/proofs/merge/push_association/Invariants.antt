@@ -6,5 +6,5 @@ use Rattle.run_account.proofs.merge.push_association.Given as goal
 
 abbrev pub invariant-loop-index : goal.invariant-loop-index
 invariant-loop-index l =
-    let histories = map (λ history. history.now) l.histories in
+    let histories = map (λ history. history.items) l.histories in
     IsMovingOn l.fn.events.items (left_from l.fn.places histories) l.events.items (left_from l.places histories) l.index

@@ -9,8 +9,8 @@ use Rattle.run_facts.specs.Saying.{AnswersSteps}
 use Rattle.run_facts.proofs.RunSaying.{told_line, told_output}
 use Rattle.run_facts.proofs.told_run.steps_told.Goals as goal
 
-pub returns-in_ok-marks-in-Ok : goal.returns-in_ok-marks-in-Ok
-returns-in_ok-marks-in-Ok g c =
+pub returns-in-Ok : goal.returns-in-Ok
+returns-in-Ok g c =
     let table = c.args.checked.now.table in
     let plan = c.args.plan.now in
     let outcome = c.in-Ok.outcome in
@@ -23,7 +23,7 @@ returns-in_ok-marks-in-Ok g c =
       calls_are = refl;
       only = λ none other same others also. same_lines table outcome.lines others (c.in-Ok.ensures.report none other same others also);
     })
-    c.outcome_told.result c.outcome_told.ensures
+    c.run_well_told.result c.run_well_told.ensures
 
 pub returns-in-Err : goal.returns-in-Err
 returns-in-Err g c =
