@@ -1,4 +1,7 @@
 //! The layer `requests`: requests that run on a connection model and its lines by themselves, without links and calls.
+ghost use Rattle.std.specs.Prelude.{IfOk};
+ghost use Rattle.requests.specs.Connected.{HasResults};
+
 use crate::names::{self, NO_NAMES, Names};
 use crate::pages::{Answer, Page};
 use crate::sheets::{End, Layer, Sheet};
@@ -74,8 +77,12 @@ fn ran(
     connections: &Connections,
     request: &Request,
     chosen: Option<ChosenRefusal>,
-) -> Result<(Connections, Outcome), AllocError> {
-    connections.copy()?.run(request, chosen)
+) -> Result<(Connections, Outcome), AllocError>
+    ensures { IfOk result (λ ended. HasResults connections.now request.now chosen ended.1.results.items) }
+{
+    let equal = connections.copy()?;
+    let ended = equal.run(request, chosen)?;
+    Ok(ended)
 }
 
 /// The same, where what it leaves is what following its results leaves.
@@ -85,8 +92,8 @@ fn followed(
     chosen: Option<ChosenRefusal>,
 ) -> Result<(Connections, Outcome), AllocError> {
     let (_, outcome) = ran(connections, request, chosen)?;
-    let results = outcome.results.as_slice();
-    match connections.copy()?.follow(request, chosen, results) {
+    let equal = connections.copy()?;
+    match equal.follow(request, chosen, outcome.results.as_slice()) {
         Some(after) => Ok((after, outcome)),
         None => Err(AllocError),
     }
