@@ -1,7 +1,7 @@
 // A runner of calls that is written for speed, which nobody proved, for `make bench` to compare with; `make test` asks that it gives the lines of `mgcall run`.
 //     tuned_runner run [--workers N] [--verify]
 // reads the input of `mgcall run` and writes the same report. It keeps what a run keeps: the history of each shard and what each call went through, which it
-// compares, and one history of all. It takes a script as checked and passes the certificate over, and knows of faults those of the run alone. Its documents are
+// compares. It takes a script as checked and passes the certificate over, and knows of faults those of the run alone. Its documents are
 // read in `tuned_input.hpp`, and its calls go on in `tuned_calls.hpp`.
 //
 // `mgcall run` tells of each call what is proved to be so of a run of that call alone. There is no such law here: with `--verify` each call runs alone once
@@ -115,22 +115,6 @@ public:
             for (uint32_t retired = 0; retired < call.begun; retired++) taken += call.retired[retired].idle;
         }
         return same && taken == plan.steps.size();
-    }
-    // one history of all shards: association by association, with one restart between two
-    std::unique_ptr<Event[]> merged() const {
-        std::vector<size_t> starts;
-        size_t size = 0;
-        for (size_t part = 0; part <= restarts; part++, size++)
-            for (size_t number = 0; number < plan.shards; number++) { starts.push_back(size); size += part_of(shards[number], part).second; }
-        std::unique_ptr<Event[]> all(new Event[size]);
-        each_of(workers, plan.shards, [&](size_t number) {
-            for (size_t part = 0; part <= restarts; part++) {
-                auto [from, count] = part_of(shards[number], part);
-                Event* end = std::copy_n(from, count, all.get() + starts[part * plan.shards + number]);
-                if (number + 1 == plan.shards) *end = RESTART;
-            }
-        });
-        return all;
     }
     // whether each call that runs alone once more comes to what it came to in the run
     bool is_verified() const {
@@ -294,11 +278,6 @@ private:
         }
         return met == last && came_to_same(call, run);
     }
-    // the events of a shard in one association
-    std::pair<const Event*, size_t> part_of(const Shard& shard, size_t part) const {
-        size_t start = part ? shard.restarts[part - 1] + 1 : 0, end = part < restarts ? shard.restarts[part] : shard.happened;
-        return {shard.history + start, end - start};
-    }
     static void add(std::string& text, size_t number) {
         char digits[20];
         text.append(digits, std::to_chars(digits, digits + sizeof digits, number).ptr);
@@ -356,7 +335,6 @@ int main(int count, char** words) {
     Run run(script, plan, workers);
     run.play();
     if (!run.agrees()) stop("run fault 3 Disagree", 5);
-    auto history = run.merged();
     if (verifies && !run.is_verified()) stop("run fault 3 Disagree", 5);
     std::string report = run.report();
     std::fwrite(report.data(), 1, report.size(), stdout);
