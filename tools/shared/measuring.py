@@ -79,6 +79,16 @@ def counted(command, path=None, wanted=(0,)):
     return int(re.search(r"Collected : (\d+)", result.stderr)[1])
 
 
+def fetched(command, path, wanted=(0,)):
+    """How many lines of memory the data of a program are fetched from past the last cache, as valgrind reckons it for one of 32 MiB."""
+    with open(path, "rb") as text:
+        words = ["valgrind", "--tool=cachegrind", "--cache-sim=yes", f"--LL={32 << 20},16,64", "--cachegrind-out-file=/dev/null", *map(str, command)]
+        result = subprocess.run(words, stdin=text, stdout=subprocess.DEVNULL, stderr=subprocess.PIPE, text=True, check=False)
+    if result.returncode not in wanted:
+        sys.exit(f"{command[0]} ended with {result.returncode} under valgrind")
+    return int(re.search(r"LLd misses: +([\d,]+)", result.stderr)[1].replace(",", ""))
+
+
 def inclusive(command, path):
     """The instructions of each function of a program, with what it calls, by valgrind: by the function's name without what stands behind `::<`."""
     with tempfile.TemporaryDirectory() as folder, open(path, "rb") as text:

@@ -14,11 +14,18 @@ SOURCE = Path(__file__).resolve().parents[2] / "tests/tuned_runner.cpp"
 # How a run on no worker ends: all is read and checked, and nothing is run.
 BAD_WORKERS = 5
 VERIFIES = "--verify"
+# How many steps of each call are enough to see what an event fetches.
+FEW_STEPS = 45
 # The parts of a run, by the functions that stand for them.
 OF_A_RUN = {
     "the library reads the plan": ["toml::de::table_from_slice"],
     "its tree is let go": ["plans::toml++value++Value+Destruct::drop"],
-    "requests on two sets of connections": ["requests::connections::Connections::run"],
+    "requests on two sets of connections": [
+        "contexts::board::Board::refusal",
+        "contexts::board::Board::carry_out",
+        "requests::connections::Connections::describe",
+        "requests::items::item_at",
+    ],
     "the agent of the call that is handed in": ["agent::logged::Logged::step"],
     "opening": ["shards::opening::open_all"],
     "the allocator, for all of these": ["rattle_alloc", "rattle_dealloc", "rattle_realloc"],
@@ -125,6 +132,25 @@ def tuned_sizes():
         print("  ratio of many calls to few " + " beside ".join(f"{many / few:.2f}" for few, many in zip(each[100], each[10_000])))
 
 
+def tuned_fetches():
+    """The lines of memory that an event fetches from past the last cache, with 10,000 calls and with 100 of as many steps, in one shard on one worker, without
+    reading: what an event costs more where calls are many."""
+    if not measuring.has_valgrind():
+        return
+    long = next(kind for kind, _ in run_inputs.kinds() if kind.name == "long")
+    with prepared() as (folder, programs):
+        for calls in (100, 10_000):
+            path, events = write(folder, long._replace(steps=long.steps[:FEW_STEPS]), calls)
+            each = [(fetches(program, path, 1) - fetches(program, path, 0)) / events for program in programs]
+            print(f"{calls} calls, {events} events: lines fetched an event, `mgcall run` {each[0]:.1f}" + "".join(f" beside {one:.1f}" for one in each[1:]))
+
+
+def fetches(program, path, workers):
+    """The lines of memory that a run fetches."""
+    command, status = run_of(program, workers)
+    return measuring.fetched(command, path, (status,))
+
+
 def clock(program, path, workers, times=1):
     """The best time by the clock of so many runs beside each other, without reading."""
     whole, read = (measuring.best([(*run_of(program, count), path)] * times)[0] for count in (workers, 0))
@@ -141,4 +167,4 @@ def tuned_workers():
             print(f"{name}, {events} events: four workers {one:.3f} s, four runs {apart:.3f} s; four workers reach {apart / one:.2f} of them")
 
 
-PARTS = tuned_runs, run_parts, tuned_sizes, tuned_workers
+PARTS = tuned_runs, run_parts, tuned_sizes, tuned_fetches, tuned_workers
