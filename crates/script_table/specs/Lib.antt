@@ -1,3 +1,4 @@
+pub mod Named
 pub mod Names
 pub mod Table
 pub mod Words

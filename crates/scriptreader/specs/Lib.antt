@@ -9,3 +9,4 @@ pub mod Documents
 pub mod Limits
 pub mod Reading
 pub mod Laws
+pub mod Parts
