@@ -11,11 +11,10 @@ Part = namedtuple("Part", "files uses without")
 
 PARTS = {
     "mg_reports": {"one call": Part("laws Laws Sums", "", "mg_alike mg_merge")},
+    "terminations": {"numbers": Part("keys numbered Kept", "", "identifiers")},
     "contexts": {
-        "numbers": Part("keys numbered Kept", "", "identifiers"),
-        "rows": Part("terms term_rows faults Table LineFaults Rows", "numbers", ""),
-        "ties": Part("members cuts same single Groups TiedBoard", "rows", ""),
-        "media": Part("wiring media reach found trail paths Paths Found", "ties rows", ""),
+        "ties": Part("members cuts same single Groups TiedBoard", "", ""),
+        "media": Part("wiring media reach found trail paths Paths Found", "ties", ""),
     },
     "typed_values": {"shapes": Part("missing names texts unread word Names Shape Texts Unread", "", "toml")},
     "scriptreader": {

@@ -8,7 +8,7 @@ use Rattle.mg_names.specs.declared.identifiers.TermId.TheVariants.{Line, Eph}
 use Rattle.mg_model.specs.declared.rows.Row.{Row}
 use Rattle.mg_model.specs.Board.{same_term, place_in}
 use Rattle.mg_model.specs.Items.{without_cuts, subtracted}
-use Rattle.contexts.specs.Table.{cleared}
+use Rattle.terminations.specs.Table.{cleared}
 use Rattle.mg_model.specs.Board.{row_with}
 use Rattle.mg_model.proofs.Terminations.{same_term_is}
 use Rattle.contexts.specs.declared.cuts.Cut.{Cut}

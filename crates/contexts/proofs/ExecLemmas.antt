@@ -7,7 +7,7 @@ use Rattle.mg_model.specs.declared.items.Item.{Item}
 use Rattle.mg_model.specs.declared.items.RemoteSetting.{RemoteSetting}
 use Rattle.mg_model.specs.Board.{Board, exists, ContextExists}
 use Rattle.mg_model.specs.Items.{Done, Lists, IsLegal, IsExecuted, Chosen, creates_context, creates_ephemeral, subtracts, effect, remote_refused}
-use Rattle.contexts.specs.Rows.{fits}
+use Rattle.terminations.specs.Rows.{fits}
 use Rattle.contexts.specs.Steps.{created}
 use Rattle.contexts.proofs.TermLemmas.{by_value, not_both}
 

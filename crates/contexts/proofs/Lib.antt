@@ -7,8 +7,6 @@ pub mod StockLemmas
 pub mod CountLemmas
 pub mod CutLemmas
 pub mod CopyLemmas
-pub mod TermRowLemmas
-pub mod KeyLemmas
 pub mod RowLemmas
 pub mod MoveLemmas
 pub mod ClearLemmas

@@ -8,7 +8,7 @@ use Rattle.mg_model.specs.declared.items.Settings.{Settings}
 use Rattle.mg_model.specs.declared.rows.Row.{Row}
 use Rattle.mg_model.specs.Board.{same_term, place_in}
 use Rattle.mg_model.specs.Items.{without_cuts, is_ephemeral_number, given}
-use Rattle.contexts.specs.Table.{Table, row_of, used_of, class_of, left, IsCreated}
+use Rattle.terminations.specs.Table.{Table, row_of, used_of, class_of, left, IsCreated}
 use Rattle.mg_model.specs.Board.{row_with, null_row}
 use Rattle.mg_model.proofs.Terminations.{same_term_is, same_term_turned}
 use Rattle.mg_model.proofs.Cases.{same_itself}

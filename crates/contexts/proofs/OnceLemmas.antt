@@ -1,5 +1,5 @@
 -- Lists in which no termination stands twice.
-use Rattle.std.proofs.Common.{◌≡◌, ◌∙◌, Bool, false, not, ◌||◌, List, [], ◌∷◌, ◌++◌, Option, Some, None, filter}
+use Rattle.std.proofs.Common.{◌≡◌, ◌∙◌, Bool, false, not, List, [], ◌∷◌, ◌++◌, Option, Some, None, filter}
 use Rattle.std.proofs.lemmas.Bool.{or_parts}
 use Rattle.std.specs.List.{list_any, AllByRecursion, IsDistinct}
 use Rattle.mg_names.specs.declared.identifiers.TermId.{TermId}

@@ -7,10 +7,11 @@ use Rattle.mg_model.specs.declared.items.Settings.{Settings}
 use Rattle.mg_model.specs.declared.rows.Row.{Row}
 use Rattle.mg_model.specs.Board.{same_term, place_in}
 use Rattle.mg_model.specs.Items.{subtracted}
-use Rattle.contexts.specs.Table.{cleared}
+use Rattle.terminations.specs.Table.{cleared}
 use Rattle.mg_model.specs.Board.{row_with}
 use Rattle.mg_model.proofs.Terminations.{same_term_is, same_term_self}
-use Rattle.contexts.specs.Rows.{row_in, set_on}
+use Rattle.terminations.specs.Rows.{set_on}
+use Rattle.contexts.specs.Rows.{row_in}
 use Rattle.contexts.proofs.TermLemmas.{by_value}
 
 pub row_with_same : (rows : TermId → Option Row) (t : TermId) → rows ≡ row_with rows t (rows t)

@@ -1,5 +1,5 @@
 -- Small facts on tests.
-use Rattle.std.proofs.Common.{◌≡◌, Bool, true, false, ◌&&◌, refl, rules}
+use Rattle.std.proofs.Common.{◌≡◌, Bool, true, false, refl, rules}
 
 -- by a test, with its value
 pub by_value : {P : Type 0} (b : Bool) → (b ≡ true → P) → (b ≡ false → P) → P

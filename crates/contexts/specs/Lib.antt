@@ -2,9 +2,6 @@ pub mod Paths
 pub mod Found
 pub mod Groups
 pub mod TiedBoard
-pub mod Table
-pub mod LineFaults
-pub mod Kept
 pub mod BoardValue
 pub mod Rows
 pub mod Steps

@@ -12,7 +12,7 @@ use Rattle.mg_model.specs.declared.rows.Row.{Row}
 use Rattle.mg_model.specs.Board.{Board, ContextExists, exists, place_of, same_term}
 use Rattle.mg_model.specs.Numbers.{null, choose, the_line}
 use Rattle.mg_model.specs.Items.{Done, Lists, is_ephemeral_number, with_ephemeral, given, NoContextLeft, NoEphemeralLeft, EphemeralsUsedUp, placed}
-use Rattle.contexts.specs.Rows.{fits}
+use Rattle.terminations.specs.Rows.{fits}
 use Rattle.contexts.specs.BoardValue.{stands_in}
 
 -- a new ephemeral stands in a context, and its number was not given

@@ -9,7 +9,7 @@ use Rattle.mg_model.specs.declared.rows.Row.{Row}
 use Rattle.mg_model.specs.Board.{Board, ContextExists, place_in, same_term}
 use Rattle.identifiers.specs.declared.class.Class.{Class}
 use Rattle.identifiers.specs.Stock.{Stock, is_used, IsGiven}
-use Rattle.contexts.specs.Table.{Table, row_of, used_of, class_of}
+use Rattle.terminations.specs.Table.{Table, row_of, used_of, class_of}
 use Rattle.contexts.specs.declared.cuts.Cut.{Cut}
 use Rattle.contexts.specs.Groups.{listed, has_member, has_cut}
 

@@ -3,7 +3,7 @@ ghost use Rattle.std.specs.Prelude.{◌≡◌, ◌≢◌, true, OnOk, OnErr, IfO
 ghost use Rattle.mg_model.specs.Numbers.{null};
 ghost use Rattle.mg_model.specs.Board.{place_of, exists};
 ghost use Rattle.mg_model.specs.Items.{placed};
-ghost use Rattle.contexts.specs.Rows.{fits};
+ghost use Rattle.terminations.specs.Rows.{fits};
 ghost use Rattle.contexts.specs.BoardValue.{board_of, CanEnter};
 ghost use Rattle.contexts.specs.Steps.{IsEntered, entered};
 

@@ -4,11 +4,11 @@ ghost use Rattle.contexts.specs.BoardValue.{opened, started};
 
 use crate::cuts::Cuts;
 use crate::members::{self, Members};
-use crate::terms::Terms;
 use mg_model::rows::Row;
 use mg_names::identifiers::{ContextId, LineNo, TermId};
 use std::alloc::{AllocError, Global};
 use std::marker::Model;
+use terminations::Terms;
 
 /// The connection model of a gateway (H.248.1 section 6).
 #[derive(Drop)]
@@ -21,7 +21,7 @@ pub struct Board {
 
 impl Model for Board {
     ghost use Rattle.std.specs.Prelude.{map};
-    ghost use Rattle.contexts.specs.Table.{row_of};
+    ghost use Rattle.terminations.specs.Table.{row_of};
     ghost use Rattle.contexts.specs.Groups.{group_at, members_at, items_of};
     ghost use Rattle.contexts.specs.BoardValue.{BoardValue, IsTied, IsOneClass};
 
@@ -38,7 +38,7 @@ impl Board {
     ghost use Rattle.std.specs.List.{list_any, IsDistinct};
     ghost use Rattle.mg_model.specs.Board.{ContextExists, IsSettled, exists, same_term};
     ghost use Rattle.mg_model.specs.Items.{IsRising};
-    ghost use Rattle.contexts.specs.Table.{cleared};
+    ghost use Rattle.terminations.specs.Table.{cleared};
     ghost use Rattle.identifiers.specs.Count.{IsCount};
     ghost use Rattle.contexts.specs.BoardValue.{board_of, stands_in};
 
@@ -78,7 +78,7 @@ impl Board {
         ensures exactly { IfOk result (λ found. (n : ℕ) → Contains (map (λ c. c.0) found.items) n ↔ ContextExists (board_of self.now) n) }
     {
         let numbers = self.members.numbers(self.alloc)?;
-        let found: Vec<ContextId> = crate::keys::named(self.alloc, numbers.as_slice())?;
+        let found: Vec<ContextId> = terminations::named(self.alloc, numbers.as_slice())?;
         Ok(found)
     }
 

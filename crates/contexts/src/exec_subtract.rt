@@ -64,7 +64,7 @@ fn taken_out(alloc: Global, group: &[TermId]) -> Result<Done, AllocError>
     ensures { IfOk result (IsTakenOut group.now) }
 {
     let numbers = listed(alloc, &line_set(alloc, group)?)?;
-    let lines: Vec<LineNo> = crate::keys::named(alloc, numbers.as_slice())?;
+    let lines: Vec<LineNo> = terminations::named(alloc, numbers.as_slice())?;
     let ephemerals = listed(alloc, &ephemeral_set(alloc, group)?)?;
     Ok(Done {
         context: None,

@@ -2,7 +2,7 @@
 ghost use Rattle.std.specs.Prelude.{◌≡◌, true};
 ghost use Rattle.mg_model.specs.Board.{place_of, exists};
 ghost use Rattle.mg_model.specs.Items.{placed};
-ghost use Rattle.contexts.specs.Rows.{fits};
+ghost use Rattle.terminations.specs.Rows.{fits};
 ghost use Rattle.contexts.specs.BoardValue.{board_of};
 
 use crate::board::Board;

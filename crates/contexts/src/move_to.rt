@@ -2,7 +2,7 @@
 ghost use Rattle.std.specs.Prelude.{◌≡◌, ◌≢◌, true, OnOk, OnErr};
 ghost use Rattle.mg_model.specs.Board.{ContextExists, same_term, place_of, exists};
 ghost use Rattle.mg_model.specs.Items.{placed, without_cuts};
-ghost use Rattle.contexts.specs.Rows.{fits};
+ghost use Rattle.terminations.specs.Rows.{fits};
 ghost use Rattle.contexts.specs.BoardValue.{board_of};
 
 use crate::board::Board;

@@ -3,17 +3,17 @@ ghost use Rattle.std.specs.Prelude.{◌≡◌, ◌<◌, IfOk, OnOk, Some};
 ghost use Rattle.mg_names.specs.declared.identifiers.TermId.{TermId};
 ghost use Rattle.mg_names.specs.declared.identifiers.TermId.TheVariants.{Line};
 ghost use Rattle.identifiers.specs.Class.{is_of_class};
-ghost use Rattle.contexts.specs.Table.{row_of, SameNumbers};
+ghost use Rattle.terminations.specs.Table.{row_of, SameNumbers};
 ghost use Rattle.mg_model.specs.Board.{row_with};
 ghost use Rattle.contexts.specs.BoardValue.{board_of, opened, started, or_idle, filled};
 
 use crate::board::Board;
-use crate::terms::Terms;
 use crate::{cuts, members};
 use identifiers::Identifiers;
 use mg_names::identifiers::{ContextId, LineNo, TermId};
 use std::alloc::{AllocError, Global};
 use std::collections::HashMap;
+use terminations::Terms;
 
 /// The greatest number of a context.
 const LAST_CONTEXT: u32 = ContextId::CHOOSE.0 - 1;

@@ -1,13 +1,13 @@
 //! How the rows of terminations change in a command.
 ghost use Rattle.std.specs.Prelude.{◌≡◌, true, IsTrue, is_some};
 ghost use Rattle.mg_model.specs.Board.{place_in, row_with};
-ghost use Rattle.contexts.specs.Table.{row_of, SameNumbers, cleared};
-ghost use Rattle.contexts.specs.Rows.{fits, row_in, IsLine};
+ghost use Rattle.terminations.specs.Table.{row_of, SameNumbers, cleared};
+ghost use Rattle.terminations.specs.Rows.{fits};
+ghost use Rattle.contexts.specs.Rows.{row_in, IsLine};
 
-use crate::term_rows::IDLE;
-use crate::terms::Terms;
 use mg_model::items::Settings;
 use mg_names::identifiers::{ContextId, TermId};
+use terminations::{IDLE, Terms};
 
 /// Sets what a command sets on a termination.
 pub(crate) fn apply(terms: &mut Terms, t: TermId, settings: &Settings)

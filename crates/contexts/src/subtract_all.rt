@@ -4,13 +4,13 @@ ghost use Rattle.std.specs.List.{list_any};
 ghost use Rattle.mg_names.specs.declared.identifiers.TermId.{TermId};
 ghost use Rattle.mg_model.specs.Board.{same_term, place_of};
 ghost use Rattle.mg_model.specs.Items.{without};
-ghost use Rattle.contexts.specs.Table.{row_of, SameNumbers, cleared};
+ghost use Rattle.terminations.specs.Table.{row_of, SameNumbers, cleared};
 ghost use Rattle.contexts.specs.BoardValue.{board_of};
 
 use crate::board::Board;
-use crate::terms::Terms;
 use crate::{cuts, members, rows};
 use mg_names::identifiers::TermId;
+use terminations::Terms;
 
 /// Takes terminations out of their context for good.
 fn release_all(terms: &mut Terms, group: &[TermId])

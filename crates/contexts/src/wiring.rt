@@ -1,15 +1,15 @@
 //! The tables over which media goes.
 ghost use Rattle.std.specs.Prelude.{◌≡◌, map};
-ghost use Rattle.contexts.specs.Table.{row_of};
+ghost use Rattle.terminations.specs.Table.{row_of};
 ghost use Rattle.contexts.specs.Groups.{group_at, members_at, items_of};
 ghost use Rattle.contexts.specs.TiedBoard.{IsTied};
 
 use crate::cuts::{self, Cuts};
 use crate::members::Members;
-use crate::terms::Terms;
 use mg_model::rows::Row;
 use mg_names::identifiers::TermId;
 use std::marker::Model;
+use terminations::Terms;
 
 /// The rows of the terminations, and of each context its members and its cuts.
 #[derive(Drop)]
@@ -21,7 +21,7 @@ pub struct Wiring<'a> {
 
 impl<'a> Model for Wiring<'a> {
     ghost use Rattle.std.specs.Prelude.{map};
-    ghost use Rattle.contexts.specs.Table.{row_of};
+    ghost use Rattle.terminations.specs.Table.{row_of};
     ghost use Rattle.contexts.specs.Groups.{group_at, members_at, items_of};
     ghost use Rattle.contexts.specs.TiedBoard.{BoardValue, IsTied};
 

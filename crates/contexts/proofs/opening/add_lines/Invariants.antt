@@ -1,6 +1,6 @@
 use Rattle.std.proofs.Common.{◌≡◌, drop}
 use Rattle.mg_names.specs.declared.identifiers.TermId.{TermId}
-use Rattle.contexts.specs.Table.{row_of, SameNumbers}
+use Rattle.terminations.specs.Table.{row_of, SameNumbers}
 use Rattle.contexts.specs.BoardValue.{filled}
 use Rattle.contexts.proofs.opening.add_lines.Given as goal
 

@@ -1,5 +1,5 @@
 use Rattle.std.proofs.Common.{◌∙◌, ap}
-use Rattle.contexts.specs.Table.{row_of}
+use Rattle.terminations.specs.Table.{row_of}
 use Rattle.mg_model.specs.Board.{row_with}
 use Rattle.contexts.proofs.RowLemmas.{set_elsewhere}
 use Rattle.contexts.proofs.rows.place.Goals as goal

@@ -1,8 +1,8 @@
-use Rattle.std.proofs.Common.{◌≡◌, ◌∙◌, ℕ, List, Option, sym, subst, map}
+use Rattle.std.proofs.Common.{◌∙◌, ℕ, List, Option, sym, subst, map}
 use Rattle.mg_names.specs.declared.identifiers.TermId.{TermId}
 use Rattle.mg_model.specs.declared.rows.Row.{Row}
 use Rattle.identifiers.specs.declared.class.Class.{Class}
-use Rattle.contexts.specs.Table.{row_of}
+use Rattle.terminations.specs.Table.{row_of}
 use Rattle.contexts.specs.Groups.{group_at, members_at}
 use Rattle.contexts.specs.declared.cuts.Cut.{Cut}
 use Rattle.contexts.specs.BoardValue.{IsOneClass, IsTied, board_of, cuts_at, cut_of}

@@ -2,7 +2,7 @@ use Rattle.std.proofs.Common.{◌≡◌, ◌∙◌, Some, sym, ap, refl, map}
 use Rattle.mg_names.specs.declared.identifiers.TermId.TheVariants.{Eph}
 use Rattle.mg_model.specs.Board.{same_term, row_with, null_row}
 use Rattle.mg_model.specs.Items.{without_cuts}
-use Rattle.contexts.specs.Table.{row_of, used_of}
+use Rattle.terminations.specs.Table.{row_of, used_of}
 use Rattle.contexts.specs.Groups.{group_at, members_at}
 use Rattle.contexts.specs.Rows.{row_in}
 use Rattle.contexts.specs.BoardValue.{board_of, cuts_at, cut_of}

@@ -3,7 +3,7 @@ use Rattle.mg_names.specs.declared.codes.Code.TheVariants.{UnknownContext}
 use Rattle.mg_model.specs.Board.{Board}
 use Rattle.contexts.specs.BoardValue.{board_of}
 use Rattle.contexts.specs.Steps.{IsAdded, entered}
-use Rattle.contexts.specs.Table.{row_of}
+use Rattle.terminations.specs.Table.{row_of}
 use Rattle.contexts.proofs.StockLemmas.{not_missing, held_iff, used_already}
 use Rattle.contexts.proofs.AddLemmas.{can_be_added, context_named, entered_if, executed_add, entered_there, is_not_choose}
 use Rattle.contexts.proofs.board.Board.exec_add_to.Goals as goal

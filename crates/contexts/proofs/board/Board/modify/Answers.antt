@@ -1,5 +1,5 @@
 use Rattle.std.proofs.Common.{◌≡◌, ◌∙◌, sym, refl}
-use Rattle.contexts.specs.Table.{row_of}
+use Rattle.terminations.specs.Table.{row_of}
 use Rattle.contexts.specs.Groups.{group_at}
 use Rattle.contexts.specs.BoardValue.{board_of}
 use Rattle.mg_model.specs.Board.{place_in}

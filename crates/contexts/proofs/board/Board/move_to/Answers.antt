@@ -2,7 +2,7 @@ use Rattle.std.proofs.Common.{◌∙◌, IsTrue, sym, ap, refl, inl}
 use Rattle.mg_model.specs.Items.{without_cuts}
 use Rattle.mg_model.specs.Board.{same_term}
 use Rattle.identifiers.specs.Stock.{is_held}
-use Rattle.contexts.specs.Table.{row_of, left}
+use Rattle.terminations.specs.Table.{row_of, left}
 use Rattle.mg_model.specs.Board.{row_with}
 use Rattle.contexts.specs.Groups.{group_at, members_at}
 use Rattle.contexts.specs.Rows.{row_in}

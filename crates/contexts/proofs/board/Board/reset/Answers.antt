@@ -4,7 +4,7 @@ use Rattle.contexts.specs.BoardValue.{board_of}
 use Rattle.contexts.proofs.StockLemmas.{one_class_still, class_still, used_shown}
 use Rattle.contexts.proofs.TieLemmas.{same_boards, tied_none}
 use Rattle.contexts.proofs.RowLemmas.{cleared_place}
-use Rattle.contexts.specs.Table.{row_of}
+use Rattle.terminations.specs.Table.{row_of}
 use Rattle.contexts.proofs.board.Board.reset.Goals as goal
 
 pub returns : goal.returns

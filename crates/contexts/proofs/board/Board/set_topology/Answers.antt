@@ -2,7 +2,7 @@ use Rattle.std.proofs.Common.{Bool, ◌∙◌, sym, ap, refl}
 use Rattle.mg_names.specs.declared.identifiers.TermId.{TermId}
 use Rattle.std.specs.Prelude.{not}
 use Rattle.mg_model.specs.Items.{with_cut, first_receives, second_receives}
-use Rattle.contexts.specs.Table.{row_of}
+use Rattle.terminations.specs.Table.{row_of}
 use Rattle.contexts.specs.Groups.{group_at}
 use Rattle.contexts.specs.BoardValue.{board_of}
 use Rattle.contexts.proofs.TieLemmas.{same_boards, cut_of_same, cuts_viewed}

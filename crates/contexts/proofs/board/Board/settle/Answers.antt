@@ -2,7 +2,7 @@ use Rattle.std.proofs.Common.{ap, map, ◌∙◌}
 use Rattle.contexts.specs.Groups.{items_in, group_at}
 use Rattle.contexts.specs.BoardValue.{board_of, cuts_at, cut_of}
 use Rattle.contexts.proofs.StockLemmas.{one_class_still, class_still, used_at, held_iff, tied_same}
-use Rattle.contexts.specs.Table.{row_of}
+use Rattle.terminations.specs.Table.{row_of}
 use Rattle.contexts.proofs.board.Board.settle.Goals as goal
 
 pub invariant_of-self : goal.invariant_of-self

@@ -2,7 +2,7 @@ use Rattle.std.proofs.Common.{◌≡◌, refl, sym, ap, ◌∙◌, arith, rules,
 use Rattle.std.specs.List.{list_any}
 use Rattle.mg_names.specs.declared.identifiers.TermId.{TermId}
 use Rattle.mg_model.specs.Board.{same_term, place_of}
-use Rattle.contexts.specs.Table.{row_of}
+use Rattle.terminations.specs.Table.{row_of}
 use Rattle.contexts.specs.Paths.{arrived}
 use Rattle.contexts.specs.TiedBoard.{board_of, stands_in}
 use Rattle.contexts.proofs.PathLemmas.{leads_from, leads_by_one, trail_grows, trail_fits, none_left}

@@ -1,6 +1,6 @@
 use Rattle.std.proofs.Common.{◌≡◌, ◌∙◌, sym, ap, ℕ, List, Option}
 use Rattle.mg_model.specs.Board.{place_in}
-use Rattle.contexts.specs.Table.{row_of}
+use Rattle.terminations.specs.Table.{row_of}
 use Rattle.contexts.specs.declared.cuts.Cut.{Cut}
 use Rattle.contexts.specs.Groups.{group_at, has_cut}
 use Rattle.contexts.specs.TiedBoard.{board_of}

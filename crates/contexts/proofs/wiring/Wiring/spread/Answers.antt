@@ -2,7 +2,7 @@ use Rattle.std.proofs.Common.{◌≡◌, refl, ap, ◌∙◌}
 use Rattle.std.specs.List.{list_any}
 use Rattle.mg_names.specs.declared.identifiers.TermId.{TermId}
 use Rattle.mg_model.specs.Board.{same_term, place_of}
-use Rattle.contexts.specs.Table.{row_of}
+use Rattle.terminations.specs.Table.{row_of}
 use Rattle.contexts.specs.TiedBoard.{board_of, stands_in}
 use Rattle.contexts.proofs.FoundLemmas.{overfull, spread_more, spread_to_end, spread_all}
 use Rattle.contexts.proofs.wiring.Wiring.spread.Goals as goal

@@ -5,7 +5,7 @@ ghost use Rattle.std.specs.HashMap.{IsUnique, keys};
 ghost use Rattle.std.specs.List.Sorted.{IsPermutation, IsSorted};
 ghost use Rattle.std.specs.Ordering.{nat_cmp};
 ghost use Rattle.mg_model.specs.Items.{Lists};
-ghost use Rattle.contexts.specs.Kept.{is_kept};
+ghost use Rattle.terminations.specs.Kept.{is_kept};
 
 use crate::numbered::Numbered;
 use std::alloc::{AllocError, Global};

@@ -4,8 +4,8 @@ use Rattle.std.specs.Prelude.{nat_eq}
 use Rattle.std.specs.Map.{lookup}
 use Rattle.mg_names.specs.declared.identifiers.TermId.{TermId}
 use Rattle.mg_names.specs.declared.identifiers.TermId.TheVariants.{Line, Eph}
-use Rattle.contexts.specs.Table.{Table, row_of}
-use Rattle.contexts.proofs.terms.Terms.copy.Goals as goal
+use Rattle.terminations.specs.Table.{Table, row_of}
+use Rattle.terminations.proofs.terms.Terms.copy.Goals as goal
 
 pub returns-clause-rows : goal.returns-clause-rows
 unfolding row_of

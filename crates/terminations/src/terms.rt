@@ -2,7 +2,7 @@
 ghost use Rattle.std.specs.Prelude.{◌≡◌, ℕ, ◌<◌, ◌==◌, if◌then◌else◌, Bool, true, false, Some, None, Err, IsTrue, IfOk, IfSome, OnOk, OnErr, is_some, ◌↔◌, Contains, map};
 ghost use Rattle.mg_names.specs.declared.identifiers.TermId.TheVariants.{Line, Eph};
 ghost use Rattle.mg_model.specs.Items.{IsRising};
-ghost use Rattle.contexts.specs.declared.faults.AddLineFault.TheVariants as AddLineFault;
+ghost use Rattle.terminations.specs.declared.faults.AddLineFault.TheVariants as AddLineFault;
 ghost use Rattle.identifiers.specs.declared.fault.CreateFault.TheVariants as CreateFault;
 
 use crate::faults::AddLineFault;
@@ -28,7 +28,7 @@ pub struct Terms {
 const LAST_EPHEMERAL: u32 = u32::MAX;
 
 impl Model for Terms {
-    ghost use Rattle.contexts.specs.Table.{Table, IsSound};
+    ghost use Rattle.terminations.specs.Table.{Table, IsSound};
 
     ghost Value = { Table };
 
@@ -40,8 +40,8 @@ impl Model for Terms {
 #[tactic(auto, unfolding(crate::specs::Table::row_of, crate::specs::Table::used_of))]
 impl Terms {
     ghost use Rattle.mg_model.specs.Numbers.{last_ephemeral};
-    ghost use Rattle.contexts.specs.Table.{row_of, used_of, put, left, destroyed, with_mode, with_remote, cleared, known, unless_taken, known_ephemeral, overwritten, LineHasNoRemote, SameNumbers, IsUsedUp, IsCreated};
-    ghost use Rattle.contexts.specs.Rows.{fits, set_on};
+    ghost use Rattle.terminations.specs.Table.{row_of, used_of, put, left, destroyed, with_mode, with_remote, cleared, known, unless_taken, known_ephemeral, overwritten, LineHasNoRemote, SameNumbers, IsUsedUp, IsCreated};
+    ghost use Rattle.terminations.specs.Rows.{fits, set_on};
     ghost use Rattle.mg_model.specs.Board.{row_with, null_row};
 
     /// No termination, and no number used.
@@ -131,8 +131,10 @@ impl Terms {
         Ok(TermId::Eph(number))
     }
 
-    /// Writes the row of a termination that exists.
-    pub(crate) fn overwrite(&mut self, t: TermId, row: Row)
+    /// Replaces the whole row of a termination: its context, its mode and its Remote. It does nothing if the termination does not exist.
+    /// It checks neither the context nor what the Remote names, and it takes no memory. The row of a line must have no Remote.
+    /// This profile's own.
+    pub fn overwrite(&mut self, t: TermId, row: Row)
         requires { LineHasNoRemote t row }
         ensures rows { row_of self.new ≡ row_with (row_of self.old) t (overwritten row (row_of self.old t)) }
         ensures numbers { SameNumbers self.old self.new }
@@ -145,8 +147,11 @@ impl Terms {
         }
     }
 
-    /// Sets what a command sets on a termination, in the context that it is put into; where it stands, if it is put into none.
-    pub(crate) fn set(&mut self, t: TermId, context: Option<ContextId>, settings: &Settings)
+    /// Moves a termination to `context`, or leaves it in its own if that is `None`, and sets the mode and the Remote that `settings` has;
+    /// a setting that is left out keeps its value (H.248.1 sections 7.2.1, 7.2.2 and 7.2.4 on Add, Modify and Move). It does nothing if
+    /// the termination does not exist. It checks neither the context nor what the Remote names, and it takes no memory. `settings` must have no
+    /// Remote for a line.
+    pub fn set(&mut self, t: TermId, context: Option<ContextId>, settings: &Settings)
         requires { fits t settings.now.remote ≡ true }
         ensures rows { row_of self.new ≡ row_with (row_of self.old) t (set_on context settings.now (row_of self.old t)) }
         ensures numbers { SameNumbers self.old self.new }

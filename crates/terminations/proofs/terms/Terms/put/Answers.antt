@@ -1,8 +1,8 @@
 use Rattle.std.proofs.Common.{◌≡◌, Some, sym, ◌∙◌, ap, arith}
 use Rattle.std.proofs.lemmas.Grind.{common_steps}
-use Rattle.contexts.specs.Table.{row_of, put, overwritten}
+use Rattle.terminations.specs.Table.{row_of, put, overwritten}
 use Rattle.mg_model.specs.Board.{row_with}
-use Rattle.contexts.proofs.terms.Terms.put.Goals as goal
+use Rattle.terminations.proofs.terms.Terms.put.Goals as goal
 
 pub returns-clause-rows : goal.returns-clause-rows
 returns-clause-rows c =

@@ -1,5 +1,5 @@
 use Rattle.std.proofs.Common.{◌≡◌, map, take}
-use Rattle.contexts.proofs.keys.named.Given as goal
+use Rattle.terminations.proofs.keys.named.Given as goal
 
 abbrev pub invariant-loop-number : goal.invariant-loop-number
 invariant-loop-number g l = map g.N.Numbered.number_of l.found.items ≡ take l.number-index l.numbers

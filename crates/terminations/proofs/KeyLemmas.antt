@@ -1,5 +1,5 @@
 -- The keys of a map, sorted, are its numbers in rising order.
-use Rattle.std.proofs.Common.{◌≡◌, ◌≢◌, ℕ, suc, ◌<◌, IsTrue, is_some, IsSome, ◌↔◌, arith, subst, rules, List, [], ◌∷◌, Contains, Option, Some, None, nat_cmp, HashMap}
+use Rattle.std.proofs.Common.{ℕ, suc, ◌<◌, IsTrue, is_some, IsSome, ◌↔◌, arith, subst, rules, List, [], ◌∷◌, Option, Some, None, nat_cmp, HashMap}
 use Rattle.std.specs.Prelude.{nat_eq}
 use Rattle.std.proofs.lemmas.Bool.{eqb-true}
 use Rattle.std.proofs.lemmas.Cmp.{nat_eq_equiv}
@@ -12,7 +12,7 @@ use Rattle.std.specs.HashMap.{IsUnique, keys, get}
 use Rattle.std.specs.List.{AllPairs}
 use Rattle.std.specs.List.Sorted.{IsPermutation, IsSorted}
 use Rattle.mg_model.specs.Items.{IsRising, Lists}
-use Rattle.contexts.specs.Kept.{is_kept}
+use Rattle.terminations.specs.Kept.{is_kept}
 
 -- each is below those after it
 rising : (xs : List ℕ) → AllPairs (λ x y. x < y) xs → IsRising xs

@@ -2,8 +2,8 @@ use Rattle.std.proofs.Common.{rules}
 use Rattle.std.specs.Prelude.{nat_eq}
 use Rattle.std.proofs.lemmas.Map.Made.{map_same_pairs}
 use Rattle.mg_model.specs.Board.{null_row}
-use Rattle.contexts.proofs.TermRowLemmas.{lookup-idle}
-use Rattle.contexts.proofs.term_rows.make_idle.Goals as goal
+use Rattle.terminations.proofs.TermRowLemmas.{lookup-idle}
+use Rattle.terminations.proofs.term_rows.make_idle.Goals as goal
 
 pub returns : goal.returns
 returns c =

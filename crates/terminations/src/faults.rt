@@ -1,6 +1,6 @@
 //! Why a table of terminations does not grow.
 ghost use Rattle.std.specs.Prelude.{◌≡◌};
-ghost use Rattle.contexts.specs.LineFaults.{line_number, line_name};
+ghost use Rattle.terminations.specs.LineFaults.{line_number, line_name};
 
 use thiserror::Error;
 

@@ -4,7 +4,7 @@ use Rattle.mg_model.specs.declared.rows.Row.{Row}
 use Rattle.std.specs.Map.{lookup}
 use Rattle.mg_names.specs.declared.identifiers.TermId.{TermId}
 use Rattle.mg_names.specs.declared.identifiers.TermId.TheVariants.{Eph}
-use Rattle.contexts.specs.Table.{overwritten, with_remote}
+use Rattle.terminations.specs.Table.{overwritten, with_remote}
 use Rattle.mg_model.specs.Board.{null_row}
 
 -- what a look-up finds in rows that were all made null_row

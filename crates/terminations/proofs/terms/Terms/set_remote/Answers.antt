@@ -1,8 +1,8 @@
 use Rattle.std.proofs.Common.{◌≡◌, Some, sym, ◌∙◌, ap}
-use Rattle.contexts.specs.Table.{row_of}
+use Rattle.terminations.specs.Table.{row_of}
 use Rattle.mg_model.specs.Board.{row_with}
-use Rattle.contexts.proofs.TermRowLemmas.{remote_overwritten}
-use Rattle.contexts.proofs.terms.Terms.set_remote.Goals as goal
+use Rattle.terminations.proofs.TermRowLemmas.{remote_overwritten}
+use Rattle.terminations.proofs.terms.Terms.set_remote.Goals as goal
 
 pub returns-clause-rows : goal.returns-clause-rows
 returns-clause-rows c =

@@ -1,8 +1,8 @@
 //! Rows of lines by number.
 ghost use Rattle.std.specs.Prelude.{◌≡◌, ℕ, ◌==◌, Some, None, OnOk, OnErr, IfOk, if◌then◌else◌};
 ghost use Rattle.std.specs.HashMap.{IsUnchanged};
-ghost use Rattle.contexts.specs.Table.{row_at, overwritten};
-ghost use Rattle.contexts.specs.Rows.{row_set, set_on};
+ghost use Rattle.terminations.specs.Table.{row_at, overwritten};
+ghost use Rattle.terminations.specs.Rows.{row_set, set_on};
 ghost use Rattle.identifiers.specs.Stock.{at, is_used};
 ghost use Rattle.mg_model.specs.Board.{null_row};
 ghost use Rattle.mg_model.specs.Items.{remote_set};
@@ -17,8 +17,8 @@ use std::collections::HashMap;
 
 pub(crate) type Rows = HashMap<u32, Row>;
 
-/// The row of a termination in the null context on which nothing is set.
-pub(crate) const IDLE: Row = Row {
+/// The row of a termination in the null context: Inactive, with no Remote (H.248.1 section 6.2).
+pub const IDLE: Row = Row {
     place: ContextId::NULL,
     mode: Mode::Inactive,
     remote: None,

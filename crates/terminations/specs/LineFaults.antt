@@ -1,7 +1,7 @@
 -- Why a line is not added, by number and name.
 use Rattle.std.specs.Prelude.{ℕ, List, codes}
-use Rattle.contexts.specs.declared.faults.AddLineFault.{AddLineFault}
-use Rattle.contexts.specs.declared.faults.AddLineFault.TheVariants as line
+use Rattle.terminations.specs.declared.faults.AddLineFault.{AddLineFault}
+use Rattle.terminations.specs.declared.faults.AddLineFault.TheVariants as line
 
 abbrev pub line_number : AddLineFault → ℕ
 line_number line.NoMemory = 0

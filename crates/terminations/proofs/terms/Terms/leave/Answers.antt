@@ -1,7 +1,7 @@
 use Rattle.std.proofs.Common.{◌≡◌, Some, rules, sym, ◌∙◌, ap}
-use Rattle.contexts.specs.Table.{row_of, left, overwritten}
+use Rattle.terminations.specs.Table.{row_of, left, overwritten}
 use Rattle.mg_model.specs.Board.{row_with}
-use Rattle.contexts.proofs.terms.Terms.leave.Goals as goal
+use Rattle.terminations.proofs.terms.Terms.leave.Goals as goal
 
 pub returns-clause-rows : goal.returns-clause-rows
 returns-clause-rows c =

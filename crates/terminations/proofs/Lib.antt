@@ -1,0 +1,2 @@
+pub mod TermRowLemmas
+pub mod KeyLemmas
