@@ -5,8 +5,10 @@ line of the certificate on which the entry begins that it names, at the certific
 which it does; all else at the first line of the file that it is about. A file whose name is empty isn't written. The status is 6 where one can't be."""
 import hashlib
 import json
+import os
 import re
 import sys
+import traceback
 from collections import namedtuple
 from pathlib import Path
 from urllib.parse import quote
@@ -63,10 +65,12 @@ def line_of_entry(text, number):
 
 def place_of(answer):
     """The file and the line at which an answer stands."""
-    if found := re.fullmatch(r"no K\d entry=(\d+|-) .*", answer.line) if answer.kind == "check" else None:
+    found = re.fullmatch(r"no K\d entry=(\d+|-) .*", answer.line) if answer.kind == "check" else None
+    if found:
         text = Path(answer.beside).read_bytes().decode(errors="replace")
         return answer.beside, line_of_entry(text, int(found[1])) if found[1] != "-" else 1
-    if answer.kind == "plan" and (found := re.search(r", from line (\d+)$", answer.line)):
+    found = re.search(r", from line (\d+)$", answer.line) if answer.kind == "plan" else None
+    if found:
         return answer.beside, max(1, int(found[1]))
     is_of_certificate = answer.kind == "check" and answer.line.startswith("certificate fault ")
     return answer.beside if is_of_certificate else answer.file, 1
@@ -74,14 +78,20 @@ def place_of(answer):
 
 def rule_of(answer):
     """The rule that an answer which isn't well breaks."""
-    if found := re.match(r"no (K[1-7]) ", answer.line):
+    found = re.match(r"no (K[1-7]) ", answer.line)
+    if found:
         return found[1]
     return {1: "report", 3: "fault"}.get(answer.status, "no-answer")
 
 
+def relative(path):
+    """A path without the front that says that it is relative."""
+    return path[2:] if path.startswith("./") else path
+
+
 def uri(path):
     """A path as SARIF has it: relative where it is, and of signs that stand for themselves."""
-    return f"{'file://' if path.startswith('/') else ''}{quote(path.removeprefix('./'), errors='surrogateescape')}"
+    return f"{'file://' if path.startswith('/') else ''}{quote(relative(path), errors='surrogateescape')}"
 
 
 def plain(text):
@@ -125,7 +135,7 @@ def codequality(answers):
         file, line = place_of(answer)
         text = plain(f"{answer.file}: {answer.line}")
         number = hashlib.sha256(f"{rule_of(answer)} {text}".encode()).hexdigest()
-        location = {"path": plain(file.removeprefix("./")), "lines": {"begin": line}}
+        location = {"path": plain(relative(file)), "lines": {"begin": line}}
         found.append({"description": text, "check_name": rule_of(answer), "fingerprint": number, "severity": "critical", "location": location})
     yield json.dumps(found, indent=1) + "\n"
 
@@ -148,5 +158,16 @@ def main():
     return 0
 
 
+def status():
+    """The status to end with; 70 for an error that nobody expected, since 1 is a No."""
+    try:
+        return main()
+    except Exception as error:  # pylint: disable=broad-exception-caught
+        if os.environ.get("MGTOOL_DEBUG") == "1":
+            traceback.print_exc()
+        print(f"reports.py: internal error: {type(error).__name__}: {error}; please report it, as SECURITY.md of mgcall's sources says", file=sys.stderr)
+        return 70
+
+
 if __name__ == "__main__":
-    sys.exit(main())
+    sys.exit(status())

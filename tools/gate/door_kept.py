@@ -161,11 +161,11 @@ def of_file(folder, slow):
 
 
 def of_interruption(folder, slow):
-    """A tool that is ended while it drafts, by a program that takes its time, leaves nothing by half, with the status of a shell."""
+    """A tool that is ended while it drafts, by a program that takes its time, leaves nothing by half, with the status that a shell shows."""
     single = [slow.with_name("mgcall-draft"), folder.script]
-    ends = {signal.SIGTERM: (143, -signal.SIGTERM), signal.SIGINT: (130, 130), signal.SIGHUP: (-signal.SIGHUP, -signal.SIGHUP)}
-    for number, statuses in ends.items():
-        for words, status in zip(([slow, "draft", folder.script], single), statuses):
+    for number in (signal.SIGTERM, signal.SIGINT, signal.SIGHUP):
+        status = 128 + number
+        for words in ([slow, "draft", folder.script], single):
             with drafting(folder, words) as work:
                 begun = by_half(folder)
                 work.send_signal(number)

@@ -1,7 +1,5 @@
 """How the tools of this repository ask a program: the proved one where it is there, else one that is built without its proofs."""
-import sys
-
-from shared import asking, crates, programs
+from shared import asking, crates, programs, streams
 
 
 def program(name):
@@ -11,7 +9,7 @@ def program(name):
     except (crates.NoToolchain, programs.NotBuilt) as missing:
         return asking.stop(f"{name} isn't built here: {missing.code}", missing.status)
     if found == programs.unproved(name):
-        print("answered by a program that is not proved yet", file=sys.stderr)
+        streams.note("answered by a program that is not proved yet")
     return found
 
 

@@ -1,6 +1,7 @@
 """What the commands and tools share that are called by hand: their words, the files that they put together or write, the program that they ask, and how they
-end. The statuses of their own are 2 for words that ask for nothing, 3 for a file that can't be read or written, and 127 where no program is there; all others
-are the program's, and above 128 that of a signal. It is installed too, so it knows nothing of this repository."""
+end. The statuses of their own are 2 for words that ask for nothing, 3 for a file that can't be read or written, 6 for standard output or standard error that
+can't be written, 70 for an error that nobody expected, and 127 where no program is there; all others are the program's, and above 128 that of a signal. It is
+installed too, so it knows nothing of this repository."""
 import contextlib
 import os
 import signal
@@ -9,10 +10,11 @@ import sys
 import threading
 from pathlib import Path
 
-WORDS, FILES, NO_PROGRAM = 2, 3, 127
+from shared import streams, unexpected
+from shared.children import CHILDREN, ENDING, heed_signals
+
+WORDS, FILES, DEVICE, NO_PROGRAM = 2, 3, 6, 127
 DIVIDER = b"%%\n"
-# The signals that end a tool from outside, and let it do something first.
-ENDING = (signal.SIGHUP, signal.SIGINT, signal.SIGTERM)
 
 
 def stop(told, status):
@@ -77,8 +79,11 @@ def taken_away(path):
 def written(name, kind=""):
     """A text to write, or with the kind `b` bytes; standard output where no name is given. A file has its name once the text is whole; where the work ends
     before, fails or is interrupted, what had the name keeps it, and nothing else is left. What is no file, such as a device, is written as it stands."""
+    how = {} if kind else {"encoding": "utf-8", "errors": "surrogateescape"}
+    if name is None:
+        sys.stdout.reconfigure(encoding="utf-8")
     if name is None or Path(name).exists() and not Path(name).is_file():
-        with contextlib.nullcontext(sys.stdout) if name is None else open(name, f"w{kind}") as text:
+        with contextlib.nullcontext(sys.stdout) if name is None else open(name, f"w{kind}", **how) as text:
             yield text
             text.flush()
         return
@@ -86,7 +91,7 @@ def written(name, kind=""):
     beside = target.with_name(f".{target.name}.{os.getpid()}.new")
     try:
         with taken_away(beside):
-            with open(beside, f"x{kind}") as text:
+            with open(beside, f"x{kind}", **how) as text:
                 yield text
             beside.replace(target)
     except OSError as error:
@@ -105,11 +110,14 @@ def told(program, asked, texts, output=subprocess.PIPE):
     """Gives a program these words and texts, and says the status that it ends with, for a signal 128 and its number, as a shell does; and what it wrote, unless
     that goes elsewhere."""
     try:
-        result = subprocess.run([program, *asked], input=sections(texts), stdout=output, check=False)
+        CHILDREN.look()
+        started = subprocess.Popen([program, *asked], stdin=subprocess.PIPE, stdout=output)
     except OSError as error:
         return stop(of_file(error), NO_PROGRAM)
-    status = result.returncode
-    return status if status >= 0 else 128 - status, (result.stdout or b"").decode()
+    with CHILDREN.started(started) as process:
+        written, _ = process.communicate(sections(texts))
+    status = process.returncode
+    return status if status >= 0 else 128 - status, (written or b"").decode()
 
 
 def ask(program, asked, texts):
@@ -117,21 +125,45 @@ def ask(program, asked, texts):
     return told(program, asked, texts, None)[0]
 
 
+def ended_by(error):
+    """The status of a tool that an error ends, which is told in a line."""
+    if isinstance(error, SystemExit):
+        if hasattr(error, "status"):
+            print(error.code, file=sys.stderr)
+            return error.status
+        return error.code or 0
+    if isinstance(error, OSError) and error.filename == streams.OUTPUT:
+        streams.drop_output()
+    if isinstance(error, BrokenPipeError):
+        return 128 + signal.SIGPIPE
+    if isinstance(error, OSError):
+        print(of_file(error), file=sys.stderr)
+        return DEVICE if error.filename == streams.OUTPUT else FILES
+    return unexpected.report(error)
+
+
+def ended_with(main):
+    """Does the work of a tool, and gives the status to end with."""
+    try:
+        return main()
+    except (Exception, KeyboardInterrupt, SystemExit) as error:  # pylint: disable=broad-exception-caught
+        return ended_by(error)
+
+
+def flushed(status):
+    """The status of a tool once all is written: an answer of which something was lost is none."""
+    try:
+        sys.stdout.flush()
+    except OSError as error:
+        later = ended_by(error)
+        status = later if status in (0, 1) else status
+    return DEVICE if status in (0, 1) and streams.has_lost_errors() else status
+
+
 def run(main):
     """Ends a tool with the status that its work gives. Where the toolchain or a program is missing, what is said of it tells its own status; a file that
-    can't be read or written has a line, and an output that nobody reads, or an interruption, ends the tool as a shell would."""
-    try:
-        status = main()
-        sys.stdout.flush()
-    except KeyboardInterrupt:
-        status = 128 + signal.SIGINT
-    except BrokenPipeError:
-        os.dup2(os.open(os.devnull, os.O_WRONLY), sys.stdout.fileno())
-        status = 128 + signal.SIGPIPE
-    except OSError as error:
-        stop(of_file(error), FILES)
-    except SystemExit as ended:
-        if not hasattr(ended, "status"):
-            raise
-        stop(ended.code, ended.status)
-    sys.exit(status)
+    can't be read or written has a line, and an output that nobody reads, or an interruption, ends the tool as a shell would. An error that nobody
+    expected has a line and a status of its own."""
+    streams.guard()
+    heed_signals()
+    sys.exit(flushed(ended_with(main)))

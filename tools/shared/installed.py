@@ -4,7 +4,7 @@ import os
 import sys
 from pathlib import Path
 
-from shared import asking
+from shared import asking, streams
 
 LIBRARY = Path(__file__).resolve().parents[1]
 PROGRAMS = LIBRARY.parents[1] / "bin"
@@ -42,7 +42,7 @@ def program(name):
     if not os.access(found, os.X_OK) or found.is_dir():
         asking.stop(f"{found}: no program is there", asking.NO_PROGRAM)
     if not is_proved():
-        print("answered by a program that is not proved", file=sys.stderr)
+        streams.note("answered by a program that is not proved")
     return found
 
 

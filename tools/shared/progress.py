@@ -5,6 +5,8 @@ import sys
 import threading
 import time
 
+from shared import streams
+
 # How long a line stands at least before it is written anew, in seconds.
 PAUSE = 0.1
 # After how many seconds the first plain line comes, and how many lie between two.
@@ -23,15 +25,17 @@ class Line:
         """Writes the line anew, unless it was written a moment ago."""
         now = time.monotonic()
         if now >= self.next:
-            self.stream.write(f"{CLEAR}{text}")
-            self.stream.flush()
+            with streams.notes():
+                self.stream.write(f"{CLEAR}{text}")
+                self.stream.flush()
             self.next = now + PAUSE
 
     def end(self):
         """Takes the line away, where one was written."""
         if self.next:
-            self.stream.write(CLEAR)
-            self.stream.flush()
+            with streams.notes():
+                self.stream.write(CLEAR)
+                self.stream.flush()
 
 
 class Lines:
@@ -54,7 +58,7 @@ class Lines:
             pause = BETWEEN
             if self.text is not None:
                 minutes, seconds = divmod(int(time.monotonic() - self.begun), 60)
-                with contextlib.suppress(OSError):
+                with contextlib.suppress(OSError), streams.notes():
                     print(f"{minutes:>3}:{seconds:02}  {self.text}", file=self.stream, flush=True)
 
     def end(self):

@@ -60,7 +60,7 @@ def can_draw():
 def svg(text):
     """The drawing of a text for Graphviz, as a part of a page."""
     linked = re.sub(r'^(  "(\w+)" \[)', r'\1URL="#state-\2", ', text, flags=re.MULTILINE)
-    drawing = subprocess.run(DOT, input=linked, stdout=subprocess.PIPE, text=True, check=True).stdout
+    drawing = subprocess.run(DOT, input=linked, stdout=subprocess.PIPE, text=True, encoding="utf-8", check=True).stdout
     return re.sub(r"<!--.*?-->\n?", "", drawing[drawing.index("<svg") :], flags=re.DOTALL)
 
 
@@ -149,7 +149,7 @@ def laid_out(names, texts, verdict, run):
     """The text of the page."""
     script, entries = scripts.read(texts[0]), json.loads(texts[1])["entries"]
     environment = jinja2.Environment(autoescape=True, trim_blocks=True, lstrip_blocks=True, undefined=jinja2.StrictUndefined, keep_trailing_newline=True)
-    return environment.from_string(TEMPLATE.read_text()).render(
+    return environment.from_string(TEMPLATE.read_text(encoding="utf-8")).render(
         heading=heading(texts[0]),
         verdict=verdict,
         rule=check_words.rule(verdict.page),

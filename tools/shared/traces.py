@@ -83,7 +83,7 @@ def write_folder(name, sent):
     """Writes each message into a file of its own."""
     with folder(name) as place:
         for number, message in enumerate(sent, 1):
-            (place / f"{number:04}.txt").write_text(message.text, newline="")
+            (place / f"{number:04}.txt").write_text(message.text, encoding="utf-8", newline="")
 
 
 def captured(sent):

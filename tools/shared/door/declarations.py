@@ -47,8 +47,10 @@ STATUSES = (
     ("3", "a file can't be taken, has mistakes, or can't be written"),
     ("4", "there was no memory"),
     ("5", "the plan has no report"),
-    ("6", "a read or a write of a program failed"),
+    ("6", "a read or a write failed; so did one to standard output, or to standard error unless only notes were lost"),
+    ("70", "an error that nobody expected (EX_SOFTWARE): the line says what happened and where to report it, and with MGTOOL_DEBUG=1 the traceback is printed"),
     ("127", "no program is there, or Jinja2 or Graphviz isn't, or Python is older than 3.11"),
+    ("129, 130, 143", "a signal ended the tool and the programs that it had started: SIGHUP, SIGINT or SIGTERM"),
 )
 
 COMMANDS = (

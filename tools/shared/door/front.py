@@ -2,14 +2,13 @@
 repository."""
 import functools
 import importlib
-import signal
 import sys
 import textwrap
 
 from shared import asking, scripts
 from shared.door import declarations, words
 
-COLUMN = 12
+COLUMN = 15
 
 
 def paragraph(text):
@@ -53,12 +52,6 @@ def without_command(name, given):
     asking.stop(f"{name}: {said}; the commands are {', '.join(names)}, and {name} --help tells of them", asking.WORDS)
 
 
-def ended(number, frame):
-    """Ends the tool as a signal would, with what is written by half taken away."""
-    del frame
-    sys.exit(128 + number)
-
-
 def called(name, command, given, find):
     """Does what these words ask of a command; gives the status. `find` finds the programs."""
     asked = words.asked(name, command, given)
@@ -69,7 +62,6 @@ def called(name, command, given, find):
 def main(name, home):
     """Does what the words ask for. `name` is how the tool is called; `home` is the module that finds the programs (`program`), and says which version they are
     (`version`) and whether they are proved (`said_of`). Gives the status."""
-    signal.signal(signal.SIGTERM, ended)
     given = sys.argv[1:]
     place = words.parted(given)
     command = None if place is None else declarations.command(given[place])

@@ -3,11 +3,10 @@ another one than that for which it was drafted. The checksums of both stand in a
 installed too, so it knows nothing of this repository."""
 import hashlib
 import os
-import sys
 from collections import namedtuple
 from pathlib import Path
 
-from shared import asking, certificates, drafting, progress
+from shared import asking, certificates, drafting, progress, streams
 from shared.door import inputs
 from shared.door.inputs import CERTIFICATE, Given
 from shared.mistakes import told
@@ -47,7 +46,7 @@ class Beside:
     def kept_rows(self):
         """The lines of the checksums; none where they can't be read."""
         try:
-            return self.digests.read_text().splitlines()
+            return self.digests.read_text(encoding="utf-8", errors="surrogateescape").splitlines()
         except (OSError, ValueError):
             return []
 
@@ -58,7 +57,7 @@ class Beside:
                 file.write(certificate)
                 digests.write(self.rows(script, certificate))
         except (OSError, ValueError) as fault:
-            print(f"{self.certificate}: the draft isn't kept: {getattr(fault, 'strerror', None) or fault}", file=sys.stderr)
+            streams.note(f"{self.certificate}: the draft isn't kept: {getattr(fault, 'strerror', None) or fault}")
 
 
 def nothing():
@@ -101,7 +100,7 @@ def drafted_from(script, start, find, **how):
 def tell(draft, name):
     """Says on standard error what became of a draft."""
     entries = draft.text.count(b"\n") - 2
-    print(f"{name}: drafted, {draft.became}, with {entries} entr{'y' if entries == 1 else 'ies'}", file=sys.stderr)
+    streams.note(f"{name}: drafted, {draft.became}, with {entries} entr{'y' if entries == 1 else 'ies'}")
 
 
 def kept(script, find):
@@ -111,7 +110,7 @@ def kept(script, find):
     if beside.certificate.exists():
         given = inputs.needed({CERTIFICATE: os.fspath(beside.certificate)})[CERTIFICATE]
         if not beside.is_drafted(given.text):
-            print(f"{given.name}: {OWN}", file=sys.stderr)
+            streams.note(f"{given.name}: {OWN}")
             return given
         if beside.is_for(script.text):
             return given
