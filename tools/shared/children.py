@@ -19,7 +19,7 @@ class Children:
     """The programs that run now; `is_ending` once a signal ends the command."""
 
     def __init__(self) -> None:
-        self.running: set[subprocess.Popen[bytes]] = set()
+        self.running: dict[subprocess.Popen[bytes], bool] = {}
         self.is_ending = False
 
     def look(self) -> None:
@@ -28,40 +28,34 @@ class Children:
             raise Ending
 
     @contextlib.contextmanager
-    def started(self, process: "subprocess.Popen[bytes]") -> Iterator["subprocess.Popen[bytes]"]:
-        """Knows of a program while it runs. It is ended however this is left."""
-        self.running.add(process)
+    def started(self, process: "subprocess.Popen[bytes]", is_leader: bool = False) -> Iterator["subprocess.Popen[bytes]"]:
+        """Knows of a program while it runs. The program is ended however this is left; if it leads a session of its own, all that it started is too."""
+        self.running[process] = is_leader
         try:
             self.look()
             yield process
         finally:
-            end(process)
-            self.running.discard(process)
+            kill(process, is_leader)
+            process.wait()
+            self.running.pop(process)
 
     def end_all(self) -> None:
         """Ends every program, and lets no other begin: one that is starting in another thread finds `is_ending` as soon as it is known here."""
         self.is_ending = True
-        for process in list(self.running):
-            kill(process)
+        for process, is_leader in list(self.running.items()):
+            kill(process, is_leader)
 
 
 CHILDREN = Children()
 
 
-def kill(process: "subprocess.Popen[bytes]") -> None:
-    """Kills a program; one that leads a session of its own with all that it started."""
+def kill(process: "subprocess.Popen[bytes]", is_leader: bool) -> None:
+    """Kills a program, or the session that it leads."""
     with contextlib.suppress(ProcessLookupError, PermissionError):
-        if os.getpgid(process.pid) == process.pid:
+        if is_leader:
             os.killpg(process.pid, signal.SIGKILL)
         else:
             process.kill()
-
-
-def end(process: "subprocess.Popen[bytes]") -> None:
-    """Kills a program, unless its end is known already, and waits for it."""
-    if process.returncode is None:
-        kill(process)
-    process.wait()
 
 
 def ended(number: int, frame: FrameType | None) -> None:
