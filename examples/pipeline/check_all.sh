@@ -5,10 +5,11 @@
 # has a line too: another report than the one that is kept is a No. The status is the highest of all, so 0 where all is well. A folder without a script,
 # a script without its certificate, or a report without its plan counts as 3, an input that can't be read. MGCALL names the program, where it isn't
 # `mgcall`. With an option the answers are written to a file too, by reports.py, which stands beside this script and needs Python 3.
+# A line on standard error says whether that program is proved. With --proved another one gives no answer, and the status is 69.
 set -u
 mgcall=${MGCALL:-mgcall}
-usage='usage: check_all.sh [--junit FILE] [--sarif FILE] [--codequality FILE] FOLDER..'
-junit='' sarif='' codequality=''
+usage='usage: check_all.sh [--proved] [--junit FILE] [--sarif FILE] [--codequality FILE] FOLDER..'
+junit='' sarif='' codequality='' proved=''
 worst=0
 answers=$(mktemp) || exit 6
 trap 'rm -f "$answers"' EXIT
@@ -60,8 +61,20 @@ check() {
     if [ $status -eq 0 ]; then compare "$1" "$certificate" "$plan" "$report"; fi
 }
 
+# Says of the program whether it is proved. An installed program has a list of what was installed beside it, and a note if it isn't proved.
+kind_of_program() {
+    path=$(command -v "$mgcall") && path=$(readlink -f "$path") || { echo 'not there' && return; }
+    library=$(dirname "$path")/../lib/mgcall
+    case $path in
+    *-not-proved) echo 'not proved' ;;
+    */crates/mgcall/out/mgcall) echo proved ;;
+    *) if [ -e "$library/not-proved" ]; then echo 'not proved'; elif [ -e "$library/installed" ]; then echo proved; else echo 'of unknown origin'; fi ;;
+    esac
+}
+
 while [ $# -gt 1 ]; do
     case $1 in
+    --proved) proved=1 && shift && continue ;;
     --junit) junit=$2 ;;
     --sarif) sarif=$2 ;;
     --codequality) codequality=$2 ;;
@@ -74,6 +87,13 @@ case ${1--} in -*)
     exit 2
     ;;
 esac
+kind=$(kind_of_program)
+echo "check_all.sh: $mgcall is $kind" >&2
+if [ -n "$proved" ] && [ "$kind" != proved ]; then
+    echo "check_all.sh: --proved takes a proved program alone: make prove proves mgcall, and make install installs it" >&2
+    if [ "$kind" = 'not there' ]; then exit 127; fi
+    exit 69
+fi
 for folder in "$@"; do
     scripts=$(find "$folder" -name '*.toml' ! -name plan.toml ! -name '*.plan.toml' | LC_ALL=C sort)
     if [ -z "$scripts" ]; then tell folder 3 "$folder" "$folder" "no script"; fi

@@ -4,7 +4,7 @@ from shared.door import declarations
 TOOL = "mgtool"
 HEAD = "# Completions of mgtool for {}. Written by tools/gate/mgtool from tools/shared/door/declarations.py.\n"
 COMMANDS = declarations.COMMANDS
-EVERYWHERE = (declarations.HELP, declarations.VERSION)
+EVERYWHERE = declarations.EVERYWHERE
 
 
 def files(command):

@@ -59,13 +59,13 @@ def lines():
     for place, command in enumerate(declarations.COMMANDS):
         yield from ([".br"] if place else [])
         yield from synopsis(command)
-    yield from (".br", f".B {TOOL}", ".RB [ \\-\\-help ]", ".RB [ \\-\\-version ]")
+    yield from (".br", f".B {TOOL}", *(f".RB [ {manual.escaped(option.word)} ]" for option in declarations.EVERYWHERE))
     yield from (".SH DESCRIPTION", manual.inline(declarations.RULE), ".PP", manual.inline(declarations.FILES), ".PP", "Options may stand anywhere.")
     yield ".SH COMMANDS"
     for command in declarations.COMMANDS:
         yield from command_lines(command)
     yield ".SH OPTIONS"
-    for option in (declarations.HELP, declarations.VERSION):
+    for option in declarations.EVERYWHERE:
         yield from option_lines(option)
     yield from (".SH EXIT STATUS", *statuses(), ".SH EXAMPLES")
     for says, command in EXAMPLES:

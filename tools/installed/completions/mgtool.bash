@@ -8,7 +8,7 @@ _mgtool_files() {
 }
 
 _mgtool() {
-    local current=${COMP_WORDS[COMP_CWORD]} before=${COMP_WORDS[COMP_CWORD - 1]} command= at=1 files=0 options='--help --version' kinds=
+    local current=${COMP_WORDS[COMP_CWORD]} before=${COMP_WORDS[COMP_CWORD - 1]} command= at=1 files=0 options='--help --version --proved' kinds=
     COMPREPLY=()
     while ((at < COMP_CWORD)); do
         case ${COMP_WORDS[at]} in
@@ -20,17 +20,17 @@ _mgtool() {
     done
     case $command in
     '') kinds=command ;;
-    check) options='--certificate --strict --format --pieces --help --version' kinds='toml' ;;
-    why) options='--certificate --json --dot --ladder --call --strict --help --version' kinds='toml toml' ;;
-    test) options='--certificate --scenarios -k --faults --record --format --help --version' kinds='toml' ;;
-    plan) options='--certificate --scenarios -k --help --version' kinds='toml' ;;
-    draft) options='--certificate -o --wide --whole --help --version' kinds='toml' ;;
-    coverage) options='--certificate --intents --brief --format --help --version' kinds='toml' ;;
-    run) options='--certificate --workers --help --version' kinds='toml toml' ;;
-    trace) options='--certificate --call --messages --pcap --help --version' kinds='toml toml' ;;
-    page) options='--certificate -o --help --version' kinds='toml toml' ;;
-    picture) options='--help --version' kinds='toml' ;;
-    watch) options='--certificate --changes --help --version' kinds='toml' ;;
+    check) options='--certificate --strict --format --pieces --help --version --proved' kinds='toml' ;;
+    why) options='--certificate --json --dot --ladder --call --strict --help --version --proved' kinds='toml toml' ;;
+    test) options='--certificate --scenarios -k --faults --record --format --help --version --proved' kinds='toml' ;;
+    plan) options='--certificate --scenarios -k --help --version --proved' kinds='toml' ;;
+    draft) options='--certificate -o --wide --whole --help --version --proved' kinds='toml' ;;
+    coverage) options='--certificate --intents --brief --format --help --version --proved' kinds='toml' ;;
+    run) options='--certificate --workers --help --version --proved' kinds='toml toml' ;;
+    trace) options='--certificate --call --messages --pcap --help --version --proved' kinds='toml toml' ;;
+    page) options='--certificate -o --help --version --proved' kinds='toml toml' ;;
+    picture) options='--help --version --proved' kinds='toml' ;;
+    watch) options='--certificate --changes --help --version --proved' kinds='toml' ;;
     esac
     case $before in
     --certificate) _mgtool_files json "$current" ;;

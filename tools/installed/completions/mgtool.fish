@@ -14,6 +14,7 @@ complete -c mgtool -n __fish_use_subcommand -a picture -d 'write the state machi
 complete -c mgtool -n __fish_use_subcommand -a watch -d 'check a script again whenever it changes'
 complete -c mgtool -n 'true' -l help -d 'Say what it does and what its words are'
 complete -c mgtool -n 'true' -l version -d 'Say which version it and the two programs are, and whether these are proved'
+complete -c mgtool -n 'true' -l proved -d 'Refuse to answer if mgcall or mgexplain isnt proved, with an error and status 69'
 complete -c mgtool -n '__fish_seen_subcommand_from check' -a '(__fish_complete_suffix .toml)'
 complete -c mgtool -n '__fish_seen_subcommand_from check' -l certificate -r -d 'The certificate'
 complete -c mgtool -n '__fish_seen_subcommand_from check' -l strict -d 'Status 1 for a yes under which something is warned of'

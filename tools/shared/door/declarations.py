@@ -48,6 +48,7 @@ STATUSES = (
     ("4", "there was no memory"),
     ("5", "the plan has no report"),
     ("6", "a read or a write failed; so did one to standard output, or to standard error unless only notes were lost"),
+    ("69", "--proved is given, and a program that would answer isn't proved (EX_UNAVAILABLE)"),
     ("70", "an error that nobody expected (EX_SOFTWARE): the line says what happened and where to report it, and with MGTOOL_DEBUG=1 the traceback is printed"),
     ("127", "no program is there, or Jinja2 or Graphviz isn't, or Python is older than 3.11"),
     ("129, 130, 143", "a signal ended the tool and the programs that it had started: SIGHUP, SIGINT or SIGTERM"),
@@ -198,6 +199,12 @@ COMMANDS = (
 NEEDED = {"page": ("target",)}
 HELP = Option("help", "--help", None, "Say what it does and what its words are.", None)
 VERSION = Option("version", "--version", None, "Say which version it and the two programs are, and whether these are proved.", None)
+PROVED = Option(
+    "needs_proofs", "--proved", None,
+    "Refuse to answer if mgcall or mgexplain isn't proved, with an error and status 69. With --version: that status if one of them isn't.", None,
+)
+# What every command takes.
+EVERYWHERE = (HELP, VERSION, PROVED)
 
 
 def command(name):

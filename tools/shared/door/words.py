@@ -84,13 +84,14 @@ def parser(tool, command):
         is_needed = option.key in declarations.NEEDED.get(command.name, ())
         more = {"required": True} if is_needed else {}
         options.add_argument(option.word, dest=option.key, help=plain(option.about), **reading(option), **more)
+    options.add_argument(declarations.PROVED.word, dest=declarations.PROVED.key, action="store_true", help=plain(declarations.PROVED.about))
     options.add_argument(declarations.HELP.word, "-h", action="help", help=declarations.HELP.about)
     return made
 
 
 def known(command):
     """The options of a command, by their words."""
-    return (*(option.word for option in command.options), declarations.HELP.word, "-h")
+    return (*(option.word for option in command.options), declarations.PROVED.word, declarations.HELP.word, "-h")
 
 
 def unknown(command, given):
