@@ -1,7 +1,7 @@
 """What `mgexplain` tells of runs, for `tools/gate/explain`: for each stored run and each plan of gallery/ and examples/ its first lines and its status are
 those of `mgcall run --workers 1`; the steps of each call of the plan are told once and in order; events and idle steps, counted anew from what is told, are
 those of the lines; each number that a call knows was given by a reply; what is told of one call is what is told of it among all; and the ladder stands
-under the same lines. The rows below are reasoned by hand."""
+under the same lines; and who hears whom is as the rules have it, one way too. The rows below are reasoned by hand."""
 import json
 import tomllib
 from pathlib import Path
@@ -120,6 +120,9 @@ ROWS = (
         ),
     ),
 )
+# Who hears whom behind each step of a stored run, as pairs of who is heard and who hears, by docs/believe/MODEL.md. Line a is ReceiveOnly and b SendOnly, so
+# media go from a to b alone; then both are SendReceive, and `oneway` of (b, a) leaves those from b to a; then they go both ways; then no line is in a context.
+HEARS = {"one_way": ("", "", "ab", "ab", "ab", "ba", "ba", "ba", "ab ba", "ab ba", "ab ba", "", "", "")}
 
 
 def ended(text):
@@ -306,6 +309,14 @@ def by_hand(mgexplain):
         yield name, [] if right else [f"{told}, {[line['line'] for line in report]}, {said}"]
 
 
+def heard(mgexplain):
+    """The stored runs of which it is told here who hears whom, each with what is wrong with what is said of that."""
+    for name, wanted in HEARS.items():
+        page = told_words.facts(mgexplain, (RUNS / f"{name}.in").read_bytes())[1]
+        found = [" ".join(sorted(one["from"] + one["to"] for one in step["hears"])) for line in page["report"] for step in line["steps"]]
+        yield f"who hears whom in {name}", [] if found == [*wanted] else [f"{found} in place of {[*wanted]}"]
+
+
 def words_are_refused(mgexplain):
     """Whether words that ask of a run what it doesn't have, or of no run, are answered by the line on the words."""
     watch = given(TOP / "examples" / "watch")
@@ -319,4 +330,5 @@ def judged(pool, programs, refused):
     """All that is tried, each with what is wrong with it."""
     yield from pool.map(lambda row: (row[0], [*wrongs(programs, row[1], refused)]), [*inputs()])
     yield from by_hand(programs[1])
+    yield from heard(programs[1])
     yield from words_are_refused(programs[1])
