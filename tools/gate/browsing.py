@@ -4,12 +4,12 @@ import html
 import json
 import re
 import shutil
-import subprocess
 import tempfile
 from collections import namedtuple
 from pathlib import Path
 
-SECONDS = 300
+from gate import limits
+
 # By how browsers call them: the numbers of the two colours, and the widths in pixels.
 COLOURS = {"dark": 0, "light": 1}
 WIDTHS = (380, 1280)
@@ -122,7 +122,7 @@ def seen_in(folder, colour):
     """What is found in a colour on the pages of a folder, by a page in it that looks at them."""
     words = ["--headless", "--no-sandbox", "--disable-gpu", "--allow-file-access-from-files", "--virtual-time-budget=60000", "--dump-dom"]
     words += [f"--user-data-dir={folder / 'user'}", f"--blink-settings=preferredColorScheme={COLOURS[colour]}", f"file://{folder}/look.html"]
-    result = subprocess.run([browser(), *words], capture_output=True, text=True, errors="replace", timeout=SECONDS, check=True)
+    result = limits.run([browser(), *words], capture_output=True, text=True, errors="replace", check=True)
     said = re.search(r'<pre id="found">(.*?)</pre>', result.stdout, re.DOTALL)
     for one in json.loads(html.unescape(said[1])) if said else []:
         yield Seen(Path(one["page"]).stem, colour, one["width"], one["count"], one["behind"], one["wrongs"])

@@ -8,7 +8,8 @@ import tempfile
 from collections import namedtuple
 from pathlib import Path
 
-SECONDS = 600
+from gate import limits
+
 CODEC = "megaco_pretty_text_encoder"
 # Decodes each file of a folder, in the order of their names: a line for each, with the message as a term of Erlang, or the reason why there is none.
 DECODES = (
@@ -55,7 +56,7 @@ def decoded(texts):
         for place, text in enumerate(texts):
             (Path(folder) / f"{place:08}").write_text(text, newline="")
         command = ["erl", "-noshell", "-noinput", "-eval", DECODES, "-extra", folder]
-        result = subprocess.run(command, stdout=subprocess.PIPE, text=True, timeout=SECONDS, check=True)
+        result = limits.run(command, stdout=subprocess.PIPE, text=True, check=True)
     return [term(line) for line in result.stdout.splitlines()]
 
 
@@ -70,7 +71,7 @@ def by_tshark(capture, *words):
         file.write(capture)
         file.flush()
         command = ["tshark", "-r", file.name, *words]
-        return subprocess.run(command, capture_output=True, text=True, errors="replace", timeout=SECONDS, check=True).stdout
+        return limits.run(command, capture_output=True, text=True, errors="replace", check=True).stdout
 
 
 def dissected(capture):

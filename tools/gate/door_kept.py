@@ -11,6 +11,7 @@ import subprocess
 import time
 from collections import namedtuple
 
+from gate import limits
 from shared import programs, progress
 
 HOTLINE = programs.TOP / "gallery" / "hotline" / "script.toml"
@@ -18,8 +19,9 @@ DRAFTED = re.compile(r"^(.*): drafted, (yes|no) .*, with (\d+) entr", re.MULTILI
 OWN = "it is taken as it stands"
 # The lines on how far a draft has come, which stand there where the machine is slow.
 LATER = re.compile(r"^ *\d+:\d\d  drafting: .*\n", re.MULTILINE)
-# The first line on a draft that takes its time, where standard error is no terminal; how long something is waited for, in seconds.
-FIRST, PATIENCE = re.compile(r"^  0:0[01]  drafting: 0 entries, 0 configurations put in\n", re.MULTILINE), 60
+# The first line on a draft that takes its time, where standard error is no terminal; how long something is waited for, in seconds of the clock: a tool that
+# waits for ever takes no processor time, and that is what is tried here.
+FIRST, PATIENCE = re.compile(r"^ *\d+:\d\d  drafting: 0 entries, 0 configurations put in\n", re.MULTILINE), 3600
 # What a script of gallery/hotline is turned to, with what drafting anew comes to: how many configurations are put in into what stood there, or into nothing.
 TURNED = (
     ("a remark", lambda text: text + "# more\n", "yes after 0 edits"),
@@ -42,7 +44,7 @@ class Folder:
 
     def told(self, *words, **how):
         """What calling the tool comes to."""
-        result = subprocess.run([self.tool, *words], capture_output=True, text=True, timeout=600, check=False, **how)
+        result = limits.run([self.tool, *words], capture_output=True, text=True, check=False, **how)
         texts = [path.read_text() if path.is_file() else None for path in (self.certificate, self.digest)]
         return Seen(result.returncode, result.stdout, LATER.sub("", result.stderr), *texts)
 
@@ -125,7 +127,7 @@ def of_streams(folder):
 def of_terminal(folder):
     """How far a draft has come is said from the start where standard error is a terminal, in a line that is gone at the end."""
     ours, theirs = pty.openpty()
-    subprocess.run([folder.tool, "draft", folder.script], stdout=subprocess.DEVNULL, stderr=theirs, timeout=600, check=False)
+    limits.run([folder.tool, "draft", folder.script], stdout=subprocess.DEVNULL, stderr=theirs, check=False)
     os.close(theirs)
     said = b""
     try:
@@ -141,16 +143,20 @@ def of_terminal(folder):
 
 def of_lines():
     """Where standard error is no terminal nothing is said of what is done at once, and a line of what takes longer."""
-    for seconds, wanted in ((0, ""), (progress.FIRST + 0.3, "  0:0[01]  at work\n")):
+    before = progress.FIRST, progress.BETWEEN
+    for first, wanted in ((3600, ""), (0.01, r" *\d+:\d\d  at work\n")):
         said = io.StringIO()
+        progress.FIRST, progress.BETWEEN = first, 3600
         with contextlib.redirect_stderr(said), progress.line() as tell:
             tell("at work")
-            time.sleep(seconds)
-        yield f"of {seconds} seconds of work: {said.getvalue()!r}", re.fullmatch(wanted, said.getvalue()) is not None
+            while wanted and not said.getvalue().endswith("\n"):
+                time.sleep(0.01)
+        yield f"of work whose first line comes after {first} seconds: {said.getvalue()!r}", re.fullmatch(wanted, said.getvalue()) is not None
+    progress.FIRST, progress.BETWEEN = before
 
 
 def of_file(folder, slow):
-    """How far a draft has come stands in a file within the first second, however long its program takes."""
+    """How far a draft has come stands in a file, however long its program takes."""
     log = folder.script.parent / "log"
     with open(log, "wb") as said:
         work = subprocess.Popen([slow, "draft", folder.script, "-o", "-"], stdout=subprocess.DEVNULL, stderr=said)

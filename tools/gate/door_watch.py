@@ -6,12 +6,13 @@ import signal
 import subprocess
 import time
 
+from gate import limits
 from shared import asking
 from shared.programs import TOP
 
 HOTLINE = TOP / "gallery" / "hotline"
-# How many seconds a block may take, on a machine that has little to give.
-PATIENCE = 120
+# How many seconds of the clock a block may take: a tool that has stopped watching takes no processor time, and that is what is tried here.
+PATIENCE = 3600
 HEAD = re.compile(r"^\d\d:\d\d:\d\d .*my\.toml$", re.MULTILINE)
 SILENT = "[intents.answer]\nsilent = true\n"
 
@@ -46,7 +47,7 @@ class Watching:
 
     def once(self, *words):
         """The status of watching without a change, and what is told."""
-        result = subprocess.run([self.tool, "watch", *words], capture_output=True, text=True, timeout=600, check=False)
+        result = limits.run([self.tool, "watch", *words], capture_output=True, text=True, check=False)
         return result.returncode, result.stdout + result.stderr
 
 
@@ -72,7 +73,7 @@ def of_changes(watching):
             yield f"watch, {name}: {watching.log.read_text()}", watching.next(says)
     finally:
         watching.work.send_signal(signal.SIGINT)
-        status = watching.work.wait(60)
+        status = watching.work.wait(PATIENCE)
     yield f"watch, interrupted: status {status}", status == 0
 
 

@@ -1,8 +1,8 @@
 """`make install` into folders that parts of the gate make: of the proved programs where they are there, else of those that are built without proofs."""
 import os
-import subprocess
 from pathlib import Path
 
+from gate import limits
 from shared import programs
 
 TOP = programs.TOP
@@ -16,7 +16,7 @@ def shell():
 
 def make(*words):
     """Status, output and standard error of make in this repository."""
-    result = subprocess.run(["make", "-s", *map(str, words)], cwd=TOP, env=shell(), capture_output=True, text=True, timeout=600, check=False)
+    result = limits.run(["make", "-s", *map(str, words)], cwd=TOP, env=shell(), capture_output=True, text=True, check=False)
     return result.returncode, result.stdout, result.stderr
 
 

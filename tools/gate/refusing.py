@@ -7,11 +7,11 @@ import tempfile
 from collections import namedtuple
 from pathlib import Path
 
+from gate import limits
 from shared import programs
 
 SOURCE = programs.TOP / "tests" / "refuse.c"
 NO_MEMORY = 4, b"no memory\n"
-SECONDS = 120
 
 
 def proved():
@@ -67,12 +67,9 @@ class Refusing:
         environment = {"LD_PRELOAD": str(self.library), "REFUSE_TELL": str(tells)}
         environment.update({f"REFUSE_{name.upper()}": str(value) for name, value in refusal.items()})
         source = {"input": given} if stdin is None else {"stdin": stdin}
-        try:
-            devices = {**source, "stdout": stdout, "stderr": subprocess.PIPE, "pass_fds": [tells]}
-            result = subprocess.run([str(word) for word in command], **devices, env=environment, timeout=SECONDS, check=False)
-            status, output, error = result.returncode, result.stdout or b"", result.stderr
-        except subprocess.TimeoutExpired:
-            status, output, error = None, b"", b"it took too long"
+        devices = {**source, "stdout": stdout, "stderr": subprocess.PIPE, "pass_fds": [tells]}
+        result = limits.run([str(word) for word in command], **devices, env=environment)
+        status, output, error = result.returncode, result.stdout or b"", result.stderr
         os.close(tells)
         refused = os.read(told, 1) == b"r"
         os.close(told)

@@ -3,15 +3,15 @@ import json
 import re
 import subprocess
 
+from gate import limits
 from shared import explained
 
-SECONDS = 600
 DIVIDER = re.compile(rb"^%%\r?(?:\n|\Z)", re.MULTILINE)
 
 
 def asked(program, data, *words):
     """Status and output of a program."""
-    result = subprocess.run([program, *words], input=data, stdout=subprocess.PIPE, timeout=SECONDS, check=False)
+    result = limits.run([program, *words], input=data, stdout=subprocess.PIPE, check=False)
     return result.returncode, result.stdout.decode()
 
 

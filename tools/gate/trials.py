@@ -10,6 +10,6 @@ def count(trials):
             passed += 1
         else:
             failed += 1
-            print(f"failed: {said}")
+            print(f"failed: {said}", flush=True)
     print(f"{passed} passed, {failed} failed")
     return 1 if failed or not passed else 0
