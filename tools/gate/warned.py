@@ -57,13 +57,13 @@ MIDDLES = (
 # Two telephones whose call waits until both are put down, whatever is lifted again meanwhile, also after a restart.
 WAITING = (TOP / "tests" / "mgtool" / "waiting" / "script.toml").read_text()
 # The same with something else in it, and what is warned of telephones that are forgotten: the word, the state and the line. In `wait` and in `b_down` a is lifted
-# with the list that it was given in `wait`. A bell is no tone for who has lifted.
+# with the list that it was given in `wait`. A tone may end by itself, so it doesn't count as heard.
 SILENT = [("lifted_in_silence", "wait", "a"), ("lifted_in_silence", "b_down", "a")]
 RECEIVERS = (
     ("all are put down", "", "", []),
     ("an end while a is lifted", 'on.b.on = "b_down"', 'on.b.on = "rearm"', [("lifted_at_end", "done", "a")]),
     ("a list without events", "modify - a events=hang", "modify - a events=none", SILENT),
-    ("a list without events, and a tone", "modify - a events=hang", "modify - a events=none signals=busy", []),
+    ("a list without events, and a tone", "modify - a events=hang", "modify - a events=none signals=busy", SILENT),
     ("a list without events, and a bell", "modify - a events=hang", "modify - a events=none signals=bell", SILENT),
 )
 # Certificates: the name, the entries with which the story's own begin and end, and what is warned of: its word, the entry, its point and the other entry.

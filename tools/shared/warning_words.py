@@ -10,7 +10,7 @@ UNWARNED = (
     "no command is left out or refused each time, and each call can be moved on and be brought to its end."
 )
 PUT_DOWN = (
-    "Where nothing goes wrong no call ends with a receiver lifted, none rests but in the start state with one that hears nothing and can do nothing, "
+    "Where nothing goes wrong no call ends with a receiver lifted, none rests but in the start state with one that hears no line and can do nothing, "
     "and no line is heard while its receiver is down."
 )
 WARNINGS = {
@@ -30,8 +30,8 @@ WARNINGS = {
     "cannot_end": "a call that is in it can't be brought to its end, whatever is done at its telephones from there. {advice}",
     "lifted_at_end": "a call can end in it with the receiver of {0} lifted, which is heard again once it is put down and lifted. {advice}",
     "lifted_in_silence": (
-        "a call can rest in it with the receiver of {0} lifted, where it hears no tone and nobody, and nothing is raised of what can be done with it. "
-        "{advice}"
+        "a call can rest in it with the receiver of {0} lifted, where it hears no other line, and nothing is raised of what can be done with it; "
+        "a tone may end by itself. {advice}"
     ),
     "heard_put_down": "a call can rest in it with the receiver of {0} down, and another line hears what is said there. {advice}",
 }
@@ -46,7 +46,7 @@ MOVE = (
 END = "Let a state on the way from there lead, by a timer, by a reply or by a receiver, to one that is marked `end`."
 HANG_UP = "Let a state before the end wait until it is put down: `on.{0}.on` leads on from there."
 CLOSE = "Let `on.{0}.on` lead on from there, with a list that has `al/on=state`, or give {0} a mode by which it isn't heard before it is lifted."
-TELL = "Give {0} a tone, a list with `al/on`, or one to talk with; or let `on.{0}.of` lead somewhere before."
+TELL = "Give {0} a list with `al/on`, or one to talk with; or let `on.{0}.of` lead somewhere before."
 # The same of a line, by the warning.
 OF_LINE = {"note_swallowed": HEAR, "lifted_at_end": HANG_UP, "lifted_in_silence": TELL, "heard_put_down": CLOSE}
 # Those of a telephone that is forgotten.

@@ -49,13 +49,13 @@ link_too g awaits_pass link is = is
 link_too g resting link is = is
 
 pub runs_tell : RunsTell
-runs_tell script entries is_script listed none_broken calls events opening end opens runs call a there now i within g is_played =
-    let kept = left_closed g script entries i (closed script entries is_script listed none_broken) in
+runs_tell script entries is_script listed none_broken calls events opening end opens runs call a there now i within g is_played lifted =
+    let kept = left_closed g script entries i lifted (closed script entries is_script listed none_broken) in
     let accepted = accepted_alone g script is_script in
-    let opened = openings_sound (script_alone g script) (IsLeft g script entries i) accepted kept calls (world_alone g opening)
+    let opened = openings_sound (script_alone g script) (IsLeft g script entries i lifted) accepted kept calls (world_alone g opening)
     (opening_alone g script calls opening opens) in
-    let sound = left_sound g script (IsLeft g script entries i) accepted kept events opening end opened runs in
-    let found = followed_by (script_alone g script) (IsLeft g script entries i) kept (world_alone g end) sound call (agent_alone g a)
+    let sound = left_sound g script (IsLeft g script entries i lifted) accepted kept events opening end opened runs in
+    let found = followed_by (script_alone g script) (IsLeft g script entries i lifted) kept (world_alone g end) sound call (agent_alone g a)
     (ap (option_map (agent_alone g)) there) now in
     let was = found.1.0.covered in
     let shown = found.1.1 in

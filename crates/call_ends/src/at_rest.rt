@@ -4,7 +4,7 @@ ghost use Rattle.mg_model.specs.Paths.{HasPath};
 ghost use Rattle.mg_model.specs.Tables.{items_of};
 ghost use Rattle.configuration.specs.Config.{configuration_of};
 ghost use Rattle.call_ends.specs.Spreading.{Adds, IsAmong, IsHeard, IsLifted, IsOnce, IsSilent, IsTold, RestsIn, RestsSo, point_of, points_of};
-ghost use Rattle.call_ends.specs.Telephones.{IsHeardAt, IsHeardDown, IsInSilence, has_tone, hears_down, hears_lifted};
+ghost use Rattle.call_ends.specs.Telephones.{IsHeardAt, IsHeardDown, IsInSilence, hears_down, hears_lifted};
 
 use crate::following::Node;
 use crate::notes::has_standing;
@@ -122,13 +122,6 @@ pub(crate) fn is_lifted_in(nodes: &[Node], state: u8) -> bool
     false
 }
 
-/// Whether signals have a tone that whoever has lifted the receiver hears.
-fn has_tone(set: SignalSet) -> bool
-    ensures { result ≡ has_tone set }
-{
-    set.dial_tone || set.ringing_tone || set.busy_tone || set.congestion_tone
-}
-
 /// Whether something is raised of what can be done with a lifted receiver, or of its being lifted.
 fn hears_lifted(script: &Script, config: &Config, line: Slot) -> bool
     ensures { result ≡ hears_lifted (items_of script.now ((configuration_of config.now).events line)) }
@@ -153,14 +146,11 @@ fn hears_any(script: &Script, config: &Config, line: Slot) -> bool
     false
 }
 
-/// Whether the receiver is lifted, nothing is heard there and nothing is raised of what can be done with it.
+/// Whether the receiver is lifted, no line is heard there and nothing that can be done with the receiver is raised. A tone does not count: it may end by itself.
 fn is_in_silence(script: &Script, line: Slot, node: &Node) -> bool
     ensures { IsTrue result ↔ IsInSilence script.now line (configuration_of node.now.config) node.now.phone }
 {
     if !node.phone.lifted {
-        return false;
-    }
-    if has_tone(node.phone.told) {
         return false;
     }
     if hears_lifted(script, &node.config, line) {

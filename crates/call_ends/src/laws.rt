@@ -24,7 +24,8 @@ pub fn no_call_is_stuck()
 {}
 
 /// Where no obligation is broken, what plays on a line of a call of the gateway's association, in any world of a run, was given to that line on a way by which
-/// calls come to a configuration of the call's state, with its request as far: whatever people do, and whatever was lost, repeated, late or restarted before.
+/// calls come to a configuration of the call's state, with its request as far: whatever people do, whether the line's receiver was lifted or down as the call
+/// opened, and whatever was lost, repeated, late or restarted before.
 pub fn runs_tell()
     ensures { RunsTell }
 {}

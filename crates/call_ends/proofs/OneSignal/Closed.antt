@@ -1,4 +1,4 @@
--- The configurations that calls come to with a telephone of line i are closed under the steps of a script of which one signal alone is told, where line i may
+-- The configurations that calls come to from one of the two openings with a telephone of line i are closed under the steps of a script of which one signal alone is told, where line i may
 -- play exactly where it was given the signal last.
 use Rattle.std.proofs.Common.{Bool, Contains, List, [], ap, false, inl, inr, refl, subst, sym, true, ℕ, ◌++◌, ◌∷◌, ◌≡◌}
 use Rattle.std.proofs.lemmas.Bool.{false_from_ne_true}
@@ -16,20 +16,24 @@ use Rattle.mg_safety.proofs.Invariant.Statements.{IsClosed}
 use Rattle.call_ends.proofs.OneSignal.Effects.{IsHeard, plays_silent, with_plays}
 use Rattle.call_ends.proofs.OneSignal.Sets.{script_alone}
 use Rattle.call_ends.proofs.OneSignal.Steps.{step_too}
-use Rattle.call_ends.specs.Telephones.{ComesWith, Goes, GoesBy, Point, after_restart, put_down, told_after}
+use Rattle.call_ends.specs.Telephones.{ComesFrom, Goes, GoesBy, Point, after_restart, start_point, told_after}
 use Rattle.call_ends.specs.declared.telephone.Manner.TheVariants.{Anyhow}
 use Rattle.call_ends.specs.declared.telephone.Telephone.{Telephone}
 
-module _ (g : Signal) (script : Script) (entries : List Entry) (i : ℕ) where
+module _ (g : Signal) (script : Script) (entries : List Entry) (i : ℕ) (lifted : Bool) where
   -- the script of which the signal alone is told
   abbrev lone : Script
   lone = script_alone g script
 
-  -- what is left of a configuration to which calls come
+  -- as a call opens
+  abbrev start : Point
+  start = start_point script lifted
+
+  -- what is left of a configuration to which calls come from there
   pub record IsLeft (left : Configuration) : Type 0 where
     pub c : Configuration
     pub phone : Telephone
-    pub comes : ComesWith Anyhow script entries i c phone
+    pub comes : ComesFrom Anyhow script entries i start (c, phone)
     pub stands : Stands script (IsCovered entries) c
     pub is : left ≡ with_plays c left.plays
     pub heard : IsHeard g i c.plays left.plays phone.told
@@ -84,7 +88,7 @@ module _ (g : Signal) (script : Script) (entries : List Entry) (i : ℕ) where
   -- ---- they are closed
 
   module _ (closes : IsClosed script (IsCovered entries)) where
-    stands_too : (c : Configuration) (phone : Telephone) → ComesWith Anyhow script entries i c phone → Stands script (IsCovered entries) c → (left : ℕ → Bool)
+    stands_too : (c : Configuration) (phone : Telephone) → ComesFrom Anyhow script entries i start (c, phone) → Stands script (IsCovered entries) c → (left : ℕ → Bool)
         → IsHeard g i c.plays left phone.told → Stands lone IsLeft (with_plays c left)
     stands_too c phone comes stands left heard = record {
       of_script = of_script_too c left heard.less stands.of_script;
@@ -103,18 +107,18 @@ module _ (g : Signal) (script : Script) (entries : List Entry) (i : ℕ) where
         (subst (λ (d : Configuration). Contains (steps_of lone d) step) was.is among) in
         let on = closes.steps was.c (too.name, too.to) was.stands too.among in
         let next : Telephone = record { told = told_after script i was.c was.phone.told too.name; lifted = was.phone.lifted } in
-        let comes : ComesWith Anyhow script entries i too.to next = (
+        let comes : ComesFrom Anyhow script entries i start (too.to, next) = (
           was.comes.0 ++ (too.to, next) ∷ [],
-          goes_on (opening script, put_down) was.comes.0 (was.c, was.phone) (too.to, next) was.comes.1
+          goes_on start was.comes.0 (was.c, was.phone) (too.to, next) was.comes.1
               (inl (too.name, (too.among, (on.covered, refl)))),
         ) in
         subst (Stands lone IsLeft) (sym (ap (λ (s : Step). s.1) too.is)) (stands_too too.to next comes on too.left too.heard)
 
     pub left_closed : IsClosed lone IsLeft
     left_closed = record {
-      opening = stands_too (opening script) put_down ([], refl) closes.opening (λ j. false) (nothing_heard (λ j. false));
-      reset = stands_too (reset script) (after_restart put_down)
-          ((reset script, after_restart put_down) ∷ [], (inr (inl (refl, (refl, (closes.reset.covered, refl)))), refl))
+      opening = stands_too (opening script) start.1 ([], refl) closes.opening (λ j. false) (nothing_heard (λ j. false));
+      reset = stands_too (reset script) (after_restart start.1)
+          ((reset script, after_restart start.1) ∷ [], (inr (inl (refl, (refl, (closes.reset.covered, refl)))), refl))
           closes.reset (λ j. false) (nothing_heard (λ j. false));
       marked = λ left stands.
           let was = stands.covered in
