@@ -1,6 +1,6 @@
 -- What words ask for: a form, the number of one call of a plan, or both in either order; that warnings count, with or without a form, in either order; or
 -- one of two words alone.
-use Rattle.std.specs.Prelude.{ℕ, List, [], ◌∷◌, Option, Some, None, codes, if◌then◌else◌}
+use Rattle.std.specs.Prelude.{ℕ, List, [], ◌∷◌, Option, Some, None, codes, if◌then◌else◌, ◌||◌}
 use Rattle.std.specs.Str.{bytes_eq}
 use Rattle.plans.specs.Texts.{number_in}
 use Rattle.check_facts.specs.declared.form.Form.{Form}
@@ -32,7 +32,7 @@ in_form (Some form) = Some (Saying form None)
 
 abbrev pub asked_by : List ℕ → Option Asked
 asked_by word =
-    if bytes_eq word (codes "--help") then Some Help
+    if bytes_eq word (codes "--help") || bytes_eq word (codes "-h") then Some Help
     else if bytes_eq word (codes "--version") then Some Version
     else if bytes_eq word (codes "--strict") then Some (Strictly Text)
     else in_form (form_of word)

@@ -1,4 +1,4 @@
-//! `mgexplain [SCRIPT CERTIFICATE [PLAN]] [--json] [--call N] [--strict] | --help | --version`: reads a script and a certificate, from files or as `mgcall
+//! `mgexplain [SCRIPT CERTIFICATE [PLAN]] [--json] [--call N] [--strict] | -h | --help | --version`: reads a script and a certificate, from files or as `mgcall
 //! check` does from standard input, and tells what that program's line is about. The first line is that line, by the same calls, and the exit status is the
 //! same. With a plan behind them the first lines are those of `mgcall run`. `--json` tells the facts as one JSON value: of the check, or with a plan of
 //! each step of a run; `--call` tells one call. Sentences and pictures are made of that value elsewhere.
@@ -48,7 +48,7 @@ commands do: a script, a line %%, a certificate, and perhaps another line %% and
   --json     the facts as one JSON value; without it the line or the report alone
   --call N   the steps of one call of a plan alone
   --strict   status 1 for a yes under which something is warned of, alone or with --json; not with a plan
-  --help     this
+  -h, --help this
   --version  which version it is
 The status is that of mgcall check, with a plan that of mgcall run. mgcall-why tells the facts in words.
 ";

@@ -41,7 +41,7 @@ fn form_of(word: &str) -> Option<Form>
 fn asked_by(word: &str) -> Option<Asked>
     ensures { result ≡ asked_by word.now }
 {
-    if word == "--help" {
+    if word == "--help" || word == "-h" {
         return Some(Asked::Help);
     }
     if word == "--version" {
