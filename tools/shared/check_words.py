@@ -108,17 +108,22 @@ def rule(page):
     return YES if "warnings" in page else f"{YES} {MANY}"
 
 
-ENDS = "Each call can be brought to its end, from wherever it has come to: by so many moves at most: {moves}."
-STUCK = "This leads to where no call can be brought to its end:"
+ENDS = "Each call can be brought to its end from wherever it is, by at most {moves} moves: requests, replies, timers and receivers."
+STUCK = (
+    "These steps of a plan lead a call to a configuration from which requests, replies, timers and receivers can't bring it to its end. {unsearched} "
+    "Each move has the state and the link after it:"
+)
+STUCK_AT_ONCE = "Requests, replies, timers and receivers can't bring a call to its end from its opening. {unsearched}"
 
 
 def ended(page, script):
-    """Whether each call can be brought to its end, or the way to where none can; nothing where that isn't told."""
+    """By how many moves each call can be brought to its end, or a shortest trace to a configuration from which none can; nothing if the facts have neither."""
     told = page.get("ending", {})
     if "each_within" in told:
         yield [ENDS.format(moves=told["each_within"])]
     elif "stuck" in told:
-        yield [STUCK, *map(made, way_steps.moves(script, told["stuck"]))]
+        moves = [*map(made, way_steps.moves(script, told["stuck"]))]
+        yield [(STUCK if moves else STUCK_AT_ONCE).format(unsearched=warning_words.UNSEARCHED), *moves]
 
 
 def worth(page, texts):
@@ -130,6 +135,7 @@ def worth(page, texts):
         script, lines = scripts.read(texts[0]), entry_places.lines(texts[1])
         said = [warning_words.warning(told, page, script, lines) for told in page["warnings"]]
         yield [warning_words.heading(page), *said] if said else [warning_words.unwarned(page)]
+        yield from ended(page, script)
 
 
 def covered(page, texts):

@@ -26,8 +26,8 @@ WARNINGS = {
     "entry_unreached": "no call comes to any point of it, so it can go.",
     "entry_held": "entry {holder} has each of its points, so it can go.",
     "point_unreached": "no call comes to its point {point}, the first such; calls come to others of it.",
-    "cannot_be_moved": "a call can rest in it and wait for ever: no timer leads on, and no receiver that is lifted or put down. {advice}",
-    "cannot_end": "a call that is in it can't be brought to its end, whatever is done at its telephones from there. {advice}",
+    "cannot_be_moved": "some call rests in it where no timer leads on, and no receiver that is lifted or put down. {advice}",
+    "cannot_end": "some call in this state can't be brought to its end by requests, replies, timers and receivers. {unsearched} {advice}",
     "lifted_at_end": "a call can end in it with the receiver of {0} lifted, which is heard again once it is put down and lifted. {advice}",
     "lifted_in_silence": (
         "a call can rest in it with the receiver of {0} lifted, where it hears no other line, and nothing is raised of what can be done with it; "
@@ -41,9 +41,12 @@ BIND = "Let a state on the way here create {used}, or leave the command out."
 LEAD = "Let that arrow lead to a state that has other commands or none, or let one before create what they name."
 STAND = "{needed} Over that arrow this isn't so: let it lead to a state without the command, or see to it before."
 MOVE = (
-    "Digits and flashes don't count, since nothing may come of them: give it a `timer`, or let it say where a receiver leads that a list of its lines names."
+    "Digits and flashes aren't searched, since nothing may come of them: give it a `timer`, or let it say where a receiver leads that a list of its lines "
+    "names."
 )
-END = "Let a state on the way from there lead, by a timer, by a reply or by a receiver, to one that is marked `end`."
+# What the search for ends leaves out (`Leads` of crates/mg_safety/specs/Ending.antt): a call may still end by one of these.
+UNSEARCHED = "The search takes no flash, no dialled digit, no refusal that the gateway chooses and no restart, so a call may still end by one of these."
+END = "Lead from there by a timer, a reply or a receiver to a state that is marked `end`."
 HANG_UP = "Let a state before the end wait until it is put down: `on.{0}.on` leads on from there."
 CLOSE = "Let `on.{0}.on` lead on from there, with a list that has `al/on=state`, or give {0} a mode by which it isn't heard before it is lifted."
 TELL = "Give {0} a list with `al/on`, or one to talk with; or let `on.{0}.of` lead somewhere before."
@@ -98,7 +101,7 @@ def warned(told, page, script):
     command = of_command(told, script)
     names = used(script, command)
     more = {"kind": told.get("note_kind"), "holder": told.get("held_by"), "point": told.get("point_number"), "place": told.get("command_place")}
-    more |= {"command": command, "used": " and ".join(names), "lacking": " or ".join(names), "arrow": of_arrow(told, page)}
+    more |= {"unsearched": UNSEARCHED, "command": command, "used": " and ".join(names), "lacking": " or ".join(names), "arrow": of_arrow(told, page)}
     return WARNINGS[told["warning"]].format(*told.get("names", []), **more, advice=advice(told, more))
 
 

@@ -60,11 +60,18 @@ class Verdict:
         return warning(self.script.name, place, told["warning"], f"state {state}: {says}")
 
     def worth(self):
-        """The warnings of a yes, in the order of the script and then of the certificate."""
+        """The warnings of a yes, in the order of the script and then of the certificate, each with the notes on it."""
         if "warnings" not in self.page:
             return [warning(self.script.name, self.parts.key("start"), UNKNOWN, check_words.MANY.rstrip("."))]
         files = [self.script.name, self.certificate.name]
-        return sorted(map(self.warned, self.page["warnings"]), key=lambda told: (files.index(told.file), told.place))
+        groups = [[self.warned(told), *self.shown(told)] for told in self.page["warnings"]]
+        return [one for group in sorted(groups, key=lambda group: (files.index(group[0].file), group[0].place)) for one in group]
+
+    def shown(self, told):
+        """How a call gets to a configuration from which it is brought to no end, in the state that it is warned of; the facts have one such trace."""
+        stuck = self.page.get("ending", {}).get("stuck")
+        if told["warning"] == "cannot_end" and stuck and [stuck["opening"], *stuck["moves"]][-1]["state"] == told["state"]:
+            yield from self.steps(stuck)
 
     # ---- a No
 
@@ -104,6 +111,10 @@ class Verdict:
         if not told.get("comes"):
             yield self.in_certificate(number, " ".join(map(str.strip, check_words.way(self.page, self.table))))
             return
+        yield from self.steps(told)
+
+    def steps(self, told):
+        """A trace from the opening, step by step, each at the arrow or the command that is taken."""
         state, link = told["opening"]["state"], certificates.link(told["opening"])
         yield self.in_script(self.parts.key("start"), f"a call opens in state {state}, link {link}")
         for count, move in enumerate(way_steps.moves(self.table, told), 1):
