@@ -77,17 +77,19 @@ def sent(step):
         yield AT_CALL, "executed", step["sent"]["request_number"], [*request_words.pieces(step["sent"])]
 
 
-def starting(place, step, later):
+def starting(place, step, later, is_in_transit):
     """The rows of what is sent at a step and doesn't come to its end at the next one."""
     for by, key, number, pieces in sent(step):
         if not any(is_end(one, key, number) for one in later[:1]):
-            is_lost = not any(is_end(one, key, number) for one in later)
-            said = [*(Piece(one.words, REFUSED if is_lost else FAINT) for one in pieces), *([Piece("lost", REFUSED)] if is_lost else [])]
-            yield Row(place, LOST if is_lost else SENT, by, said)
+            comes, is_coming = any(is_end(one, key, number) for one in later), is_in_transit(place, key, number)
+            is_lost = not comes and not is_coming
+            fate = [] if comes else [Piece("lost", REFUSED)] if is_lost else [Piece("in transit", FAINT)]
+            yield Row(place, LOST if is_lost else SENT, by, [*(Piece(one.words, REFUSED if is_lost else FAINT) for one in pieces), *fate])
 
 
-def rows(steps):
-    """The rows of the steps of a line of the report."""
+def rows(steps, is_in_transit=lambda place, key, number: False):
+    """The rows of the steps of a line of the report. A message that no step brings to its end was lost, unless whoever asks says that it is in transit: by the
+    place of the step that sent it, the key and the number by which it would come to its end."""
     for place, step in enumerate(steps):
         yield ending(place, step)
-        yield from starting(place, step, steps[place + 1 :])
+        yield from starting(place, step, steps[place + 1 :], is_in_transit)

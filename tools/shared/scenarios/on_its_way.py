@@ -27,6 +27,8 @@ class OnItsWay:
         self.request, self.last = None, None
         self.executed, self.notes, self.sent = set(), [], 0
         self.arms, self.met, self.lost, self.held, self.twice, self.refused = [], set(), set(), [], set(), {}
+        # All that was ever held.
+        self.was_held = set()
         # Steps that come first: second copies, and what was held and nobody waits for any more.
         self.first = []
         self.off = set()
@@ -106,6 +108,7 @@ class OnItsWay:
         """Loses, holds or repeats a message, or has a command of it refused."""
         if arm.verb == "hold":
             self.held.append(message)
+            self.was_held.add(message)
         elif arm.verb == "refuse":
             self.refused[message] = arm.place
         else:

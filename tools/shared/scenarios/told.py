@@ -8,9 +8,12 @@ from shared.door import diagnostics, forms
 from shared.door.diagnostics import error
 from shared.door.junit import plain
 from shared.scenarios import intended, judging
+from shared.scenarios.on_its_way import NOTE, REPLY, REQUEST
 from shared.scenarios.written import own_rules, step_text
 
 FORMAT = 1
+# The kinds of messages, by the keys by which steps tell that they come to their end.
+KINDS = {"note": NOTE, "executed": REQUEST, "reply": REPLY}
 
 
 def steps_up_to(outcome):
@@ -36,9 +39,19 @@ def diagnostic(outcome, name, text):
     return error(name, text.place(outcome.flaw.at), outcome.flaw.rule, f"{where(outcome)}: {outcome.flaw.says}")
 
 
+def is_in_transit(outcome, place, key, number):
+    """Whether a message that was sent at a step, and came to no end up to what is wrong, is in transit: it was held, or comes to its end later."""
+    steps = [taken.told for taken in outcome.course.taken]
+    begins = [at for at, told in enumerate(steps) if told["step"] == "begin" and told["came"] == "event"]
+    begun, end = sum(at <= place for at in begins), next((at for at in begins if at > place), len(steps))
+    message = (KINDS[key], number, begun) if key == NOTE else (KINDS[key], number)
+    return message in outcome.course.way.was_held or any(ladder_rows.is_end(told, key, number) for told in steps[place + 1 : end])
+
+
 def ladder(outcome):
     """The ladder of the messages up to what is wrong."""
-    rows = (text for row in ladder_rows.rows(steps_up_to(outcome)) for text in ladder_words.written(row))
+    found = ladder_rows.rows(steps_up_to(outcome), lambda place, key, number: is_in_transit(outcome, place, key, number))
+    rows = (text for row in found for text in ladder_words.written(row))
     return [ladder_words.columns("the call", "", "its gateway"), *rows]
 
 
