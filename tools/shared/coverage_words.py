@@ -54,8 +54,8 @@ def tones(sets):
 
 
 def telephone(told, state):
-    """What is said of a telephone: what plays, what else its line may have been given last, whether its receiver may be lifted, and whether it may be
-    heard while that is down."""
+    """What is said of a telephone: the signals that its line was given last and that no reported event has stopped, what else it may have been given last,
+    whether its receiver may be lifted, and whether it may be heard while that is down."""
     plays = told.get("plays", told["told"])
     if plays not in ([], [[]]):
         yield tones(plays)

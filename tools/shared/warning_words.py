@@ -10,8 +10,9 @@ UNWARNED = (
     "no command is left out or refused each time, and each call can be moved on and be brought to its end."
 )
 PUT_DOWN = (
-    "Where nothing goes wrong no call ends with a receiver lifted, none rests but in the start state with one that hears no line and can do nothing, "
-    "and no line is heard while its receiver is down."
+    "If people act only at rest, each note is taken at once, and the gateway neither restarts nor chooses a refusal, then no call ends with a receiver "
+    "lifted; none rests, but in the start state, with a lifted receiver that hears no other line and with which nothing can be done that is reported; and no "
+    "line is heard while its receiver is down."
 )
 WARNINGS = {
     "state_unlisted": "no entry is of it, so no call comes to it.",
@@ -30,8 +31,7 @@ WARNINGS = {
     "cannot_end": "some call in this state can't be brought to its end by requests, replies, timers and receivers. {unsearched} {advice}",
     "lifted_at_end": "a call can end in it with the receiver of {0} lifted, which is heard again once it is put down and lifted. {advice}",
     "lifted_in_silence": (
-        "a call can rest in it with the receiver of {0} lifted, where it hears no other line, and nothing is raised of what can be done with it; "
-        "a tone may end by itself. {advice}"
+        "a call can rest in it with the receiver of {0} lifted, where it hears no other line, and nothing that can be done with it is reported. {advice}"
     ),
     "heard_put_down": "a call can rest in it with the receiver of {0} down, and another line hears what is said there. {advice}",
 }
@@ -49,7 +49,7 @@ UNSEARCHED = "The search takes no flash, no dialled digit, no refusal that the g
 END = "Lead from there by a timer, a reply or a receiver to a state that is marked `end`."
 HANG_UP = "Let a state before the end wait until it is put down: `on.{0}.on` leads on from there."
 CLOSE = "Let `on.{0}.on` lead on from there, with a list that has `al/on=state`, or give {0} a mode by which it isn't heard before it is lifted."
-TELL = "Give {0} a list with `al/on`, or one to talk with; or let `on.{0}.of` lead somewhere before."
+TELL = "A tone may end by itself: give {0} a list with `al/on`, or one to talk with; or let `on.{0}.of` lead somewhere before."
 # The same of a line, by the warning.
 OF_LINE = {"note_swallowed": HEAR, "lifted_at_end": HANG_UP, "lifted_in_silence": TELL, "heard_put_down": CLOSE}
 # Those of a telephone that is forgotten.

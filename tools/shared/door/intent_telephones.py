@@ -12,7 +12,7 @@ def are_played(telephones):
 
 
 def sets(one):
-    """The sets of signals that play on a line; none where no call rests there in that manner, or what plays isn't told."""
+    """The sets of signals that a line was given last and that nothing has stopped; none where no call rests there in that manner, or they aren't told."""
     return one.get("plays", [])
 
 
@@ -24,7 +24,7 @@ def ringing(telephones, lines):
             yield f"no call rests in it {QUIETLY}", *place
         elif place and not all(RING in each for each in sets(one)):
             calls = "some calls that rest" if any(RING in each for each in sets(one)) else "any call that rests"
-            yield f"{line} doesn't ring in {calls} in it", *place
+            yield f"the ring isn't among the signals of {line} in {calls} in it", *place
         elif not place and any(RING in each for each in one["told"]):
             yield (f"{line} may ring in it",)
 
@@ -39,5 +39,5 @@ def playing(telephones, tones):
     for one in telephones:
         line, these = one["on_line"], wanted(tones.get(one["on_line"], []))
         if not sets(one) or any({*each} != these for each in sets(one)):
-            found = f"{coverage_words.tones(sets(one))} plays on {line}" if sets(one) else f"no call rests in it {QUIETLY}"
-            yield line, f"{found}, and {' and '.join(sorted(these)) or 'nothing'} {'are' if len(these) > 1 else 'is'} to play there"
+            found = f"the signals of {line} are {coverage_words.tones(sets(one))}" if sets(one) else f"no call rests in it {QUIETLY}"
+            yield line, f"{found}, and {' and '.join(sorted(these)) or 'nothing'} is expected"
