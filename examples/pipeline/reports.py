@@ -1,8 +1,9 @@
 #!/usr/bin/env python3
 """Writes the answers of check_all.sh as files that a forge shows: JUnit XML, SARIF 2.1.0, and the JSON of GitLab's code quality. Each answer is five lines of
-standard input: what was asked (check, plan, folder), the status, the file, what belongs to it (its certificate, its report), and the line. A No stands at the
-line of the certificate on which the entry begins that it names, at the certificate's first line where it names none; a report that differs at the line from
-which it does; all else at the first line of the file that it is about. A file whose name is empty isn't written. The status is 6 where one can't be."""
+standard input: what was asked (check, plan, scenarios, folder), the status, the file, what belongs to it (its certificate, its report), and the line. A No
+is at the line of the certificate on which the entry begins that it names, or at the certificate's first line if it names none. A report that differs, and a
+scenario that fails, is at the line that the answer names. Everything else is at the first line of its file. A file whose name is empty isn't written. The
+status is 6 if a file can't be written."""
 import hashlib
 import json
 import os
@@ -24,6 +25,7 @@ RULES = {
     "K6": "the configuration after a restart of the gateway is in some entry",
     "K7": "while a request is on its way, and at rest, a name that is bound stands for what exists",
     "report": "the plan of a script has the report that is kept",
+    "scenario": "each scenario comes out as its file says",
     "fault": "the input can be read",
     "no-answer": "there is an answer",
 }
@@ -69,7 +71,7 @@ def place_of(answer):
     if found:
         text = Path(answer.beside).read_bytes().decode(errors="replace")
         return answer.beside, line_of_entry(text, int(found[1])) if found[1] != "-" else 1
-    found = re.search(r", from line (\d+)$", answer.line) if answer.kind == "plan" else None
+    found = re.search(r", from line (\d+)$", answer.line) if answer.kind in ("plan", "scenarios") else None
     if found:
         return answer.beside, max(1, int(found[1]))
     is_of_certificate = answer.kind == "check" and answer.line.startswith("certificate fault ")
@@ -81,7 +83,7 @@ def rule_of(answer):
     found = re.match(r"no (K[1-7]) ", answer.line)
     if found:
         return found[1]
-    return {1: "report", 3: "fault"}.get(answer.status, "no-answer")
+    return {1: "scenario" if answer.kind == "scenarios" else "report", 3: "fault"}.get(answer.status, "no-answer")
 
 
 def relative(path):
@@ -147,15 +149,15 @@ def main():
         return 2
     lines = sys.stdin.buffer.read().decode(errors="surrogateescape").split("\n")
     answers = [Answer(kind, int(status), *rest) for kind, status, *rest in zip(*(lines[place::5] for place in range(5)))]
-    broken = [answer for answer in answers if answer.status]
-    try:
-        for form, written, told in ((FORMS[0], junit, answers), (FORMS[1], sarif, broken), (FORMS[2], codequality, broken)):
+    broken, status = [answer for answer in answers if answer.status], 0
+    for form, written, told in ((FORMS[0], junit, answers), (FORMS[1], sarif, broken), (FORMS[2], codequality, broken)):
+        try:
             if named.get(form):
                 Path(named[form]).write_text("".join(written(told)), encoding="utf-8")
-    except OSError as error:
-        print(f"{error.filename}: {error.strerror}", file=sys.stderr)
-        return 6
-    return 0
+        except OSError as error:
+            print(f"{error.filename or named[form]}: {error.strerror}", file=sys.stderr)
+            status = 6
+    return status
 
 
 def status():
