@@ -5,6 +5,7 @@ installed too, so it knows nothing of this repository."""
 import contextlib
 import os
 import signal
+import stat
 import subprocess
 import sys
 import threading
@@ -78,7 +79,8 @@ def taken_away(path):
 @contextlib.contextmanager
 def written(name, kind=""):
     """A text to write, or with the kind `b` bytes; standard output where no name is given. A file has its name once the text is whole; where the work ends
-    before, fails or is interrupted, what had the name keeps it, and nothing else is left. What is no file, such as a device, is written as it stands."""
+    before, fails or is interrupted, what had the name keeps it, and nothing else is left. A file that exists keeps its mode. What is no file, such as a device,
+    is written as it stands."""
     how = {} if kind else {"encoding": "utf-8", "errors": "surrogateescape"}
     if name is None:
         sys.stdout.reconfigure(encoding="utf-8")
@@ -92,6 +94,8 @@ def written(name, kind=""):
     try:
         with taken_away(beside):
             with open(beside, f"x{kind}", **how) as text:
+                if target.exists():
+                    os.fchmod(text.fileno(), stat.S_IMODE(target.stat().st_mode))
                 yield text
             beside.replace(target)
     except OSError as error:
