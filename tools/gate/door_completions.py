@@ -38,7 +38,7 @@ _mgtool_files() {{
 }}
 
 _mgtool() {{
-    local current=${{COMP_WORDS[COMP_CWORD]}} before=${{COMP_WORDS[COMP_CWORD - 1]}} command= at=1 files=0 options='{everywhere}' kinds=
+    local current=${{COMP_WORDS[COMP_CWORD]}} before=${{COMP_WORDS[COMP_CWORD - 1]}} command= at=1 files=0 many=0 options='{everywhere}' kinds=
     COMPREPLY=()
     while ((at < COMP_CWORD)); do
         case ${{COMP_WORDS[at]}} in
@@ -60,8 +60,8 @@ _mgtool() {{
             COMPREPLY=($(compgen -W "$options" -- "$current"))
         elif [[ $kinds == command ]]; then
             COMPREPLY=($(compgen -W '{names}' -- "$current"))
-        elif ((files < ${{#kinds[@]}})); then
-            _mgtool_files "${{kinds[files]}}" "$current"
+        elif ((many || files < ${{#kinds[@]}})); then
+            _mgtool_files "${{kinds[many ? 0 : files]}}" "$current"
         fi
         ;;
     esac
@@ -95,7 +95,8 @@ def bash():
         everywhere=words(EVERYWHERE),
         valued=" | ".join(valued),
         commands="\n".join(
-            f"    {one.name}) options='{words(options(one))}' kinds='{' '.join(operand.kind for operand in files(one))}' ;;" for one in COMMANDS
+            f"    {one.name}) options='{words(options(one))}' kinds='{' '.join(operand.kind for operand in files(one))}'{' many=1' * any(operand.is_many for operand in files(one))} ;;"
+            for one in COMMANDS
         ),
         values="\n".join(values),
         names=" ".join(one.name for one in COMMANDS),
@@ -117,7 +118,7 @@ def zsh_action(kind):
 def zsh_operand(place, operand):
     """A file for zsh; names of something else, of which none is offered, come last."""
     is_name = operand.kind == declarations.ANY
-    return f"'{'*' if is_name else place}:{operand.shown.lower().rstrip('.')}:{zsh_action(operand.kind)}'"
+    return f"'{'*' if is_name or operand.is_many else place}:{operand.shown.lower().rstrip('.')}:{zsh_action(operand.kind)}'"
 
 
 def zsh_option(option):

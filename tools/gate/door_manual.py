@@ -6,9 +6,13 @@ NAME = "mgtool.1"
 SEE_ALSO = (("mgcall", 1), ("mgexplain", 1), ("mgcall\\-check", 1), ("mgcall\\-script", 5), ("mgcall\\-certificate", 5), ("mgcall\\-plan", 5))
 EXAMPLES = (
     ("All that is wrong with a script, and whether it may run:", "mgtool check my.toml"),
-    ("The same for a forge, with a certificate that somebody else keeps:", "mgtool check my.toml --certificate my.json --format sarif > my.sarif"),
+    ("All scripts of a folder, for a forge:", "mgtool check scripts/*.toml --format junit > mgtool.xml"),
+    ("The same of one script, with a certificate that somebody else keeps:", "mgtool check my.toml --certificate my.json --format sarif > my.sarif"),
     ("The scenarios of a script as a plan:", "mgtool plan my.toml > my.plan.toml"),
     ("A page with a run:", "mgtool page my.toml my.plan.toml -o my.html"),
+)
+ORDER = (
+    "Options and files come in any order. A value is the next word, or follows a `=` in the word of its option. `--` ends the options, and `-` is standard input."
 )
 TOOL = "mgtool"
 manual = modules.tool("gate/manual")
@@ -60,7 +64,7 @@ def lines():
         yield from ([".br"] if place else [])
         yield from synopsis(command)
     yield from (".br", f".B {TOOL}", *(f".RB [ {manual.escaped(option.word)} ]" for option in declarations.EVERYWHERE))
-    yield from (".SH DESCRIPTION", manual.inline(declarations.RULE), ".PP", manual.inline(declarations.FILES), ".PP", "Options may stand anywhere.")
+    yield from (".SH DESCRIPTION", manual.inline(declarations.RULE), ".PP", manual.inline(declarations.FILES), ".PP", manual.inline(ORDER))
     yield ".SH COMMANDS"
     for command in declarations.COMMANDS:
         yield from command_lines(command)

@@ -1,15 +1,15 @@
 """How the tools of this repository ask a program: the proved one where it is there, else one that is built without its proofs."""
-from shared import asking, crates, programs, streams
+from shared import asking, crates, notes, programs
 
 
 def program(name):
-    """The program of this name. Where it isn't proved here yet, it is one without its proofs, and a note on standard error says so."""
+    """The program of this name. Where it isn't proved here yet, it is one without its proofs, and a note on standard error says so, once."""
     try:
         found = programs.program(name)
     except (crates.NoToolchain, programs.NotBuilt) as missing:
         return asking.stop(f"{name} isn't built here: {missing.code}", missing.status)
     if found == programs.unproved(name):
-        streams.note("answered by a program that is not proved yet")
+        notes.once("answered by a program that is not proved yet")
     return found
 
 

@@ -18,19 +18,28 @@ WORDS, FILES, DEVICE, NO_PROGRAM = 2, 3, 6, 127
 DIVIDER = b"%%\n"
 
 
+class Stopped(SystemExit):
+    """The end of a tool with a status, and what was said of it on standard error."""
+
+    def __init__(self, said, status):
+        super().__init__(status)
+        self.said = said
+
+
 def stop(told, status):
     """Says on standard error why a tool ends, and ends it with this status."""
     print(told, file=sys.stderr)
-    sys.exit(status)
+    raise Stopped(told, status)
 
 
-def words(about, usage, least, most=None):
-    """The words that a tool was given, from so many to so many. With --help it says what it does, with status 0."""
+def words(about, usage, least=None, most=None):
+    """The words that a tool was given, from so many to so many, or any number. With --help it says what it does, with status 0."""
     given = sys.argv[1:]
-    if "--help" in given or "-h" in given:
+    options = given[: given.index("--")] if "--" in given else given
+    if "--help" in options or "-h" in options:
         print(f"usage: {usage}\n\n{about}")
         sys.exit(0)
-    if not least <= len(given) <= (least if most is None else most):
+    if least is not None and not least <= len(given) <= (least if most is None else most):
         stop(f"usage: {usage}", WORDS)
     return given
 
@@ -47,9 +56,12 @@ def of_file(error):
 
 
 def read(names):
-    """The bytes of the files of these names."""
+    """The bytes of the files of these names, of which `-` is standard input."""
+    names = [*names]
+    if names.count("-") > 1:
+        stop("standard input can be one file alone, and - is given twice", WORDS)
     try:
-        return [Path(name).read_bytes() for name in names]
+        return [sys.stdin.buffer.read() if name == "-" else Path(name).read_bytes() for name in names]
     except OSError as error:
         return stop(of_file(error), FILES)
 

@@ -7,25 +7,20 @@ import json
 import sys
 from collections import namedtuple
 
-from shared import asking, certificates, explained, fronts, progress, scripts
+from shared import arguments, asking, certificates, explained, fronts, progress, scripts
 
 WIDE, WHOLE, TARGET = "--wide", "--whole", "-o"
-USAGE = f"SCRIPT [CERTIFICATE] [{TARGET} FILE] [{WIDE}] [{WHOLE}]"
+USAGE = f"SCRIPT [CERTIFICATE] [{TARGET} FILE] [{WIDE}] [{WHOLE}] [--quiet]"
+FORM = arguments.Form(1, 2, (TARGET,), (WIDE, WHOLE))
 # What is asked for: the files' names, None where one isn't named, whether entries are joined, and whether K3 and K4 end nothing.
 Wanted = namedtuple("Wanted", "script certificate target is_wide is_whole", defaults=(False,))
 
 
 def wanted(given, usage):
-    """What the words of a tool ask for."""
-    words, files, targets = iter(given), [], []
-    for word in words:
-        if word == TARGET:
-            targets.append(next(words, ""))
-        elif word not in (WIDE, WHOLE):
-            files.append(word)
-    if not 1 <= len(files) <= 2 or len(targets) > 1 or any(not name or name.startswith("-") for name in files + targets):
-        asking.stop(f"usage: {usage}", asking.WORDS)
-    return Wanted(*(files + [None])[:2], *(targets or [None]), WIDE in given, WHOLE in given)
+    """What the words of a tool ask for; `-` as the file to write is standard output."""
+    files, options = arguments.read(FORM, given, usage)
+    target = options.get(TARGET)
+    return Wanted(*(files + [None])[:2], None if target == arguments.STANDARD else target, WIDE in options, WHOLE in options)
 
 
 def page_of(program, texts):

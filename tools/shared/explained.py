@@ -4,11 +4,11 @@ import json
 import re
 from collections import namedtuple
 
-from shared import asking, check_words, ladder_words, marked_pictures, run_words, scripts, unread_words
+from shared import arguments, asking, check_words, ladder_words, marked_pictures, run_words, scripts, unread_words
 
 JSON, DOT, COVERAGE, LADDER, CALL, STRICT = "--json", "--dot", "--coverage", "--ladder", "--call", "--strict"
-USAGE = f"SCRIPT CERTIFICATE [PLAN] [{JSON} | {DOT} | {COVERAGE} | {LADDER}] [{CALL} N] [{STRICT}]"
-MOST_WORDS = 6
+USAGE = f"SCRIPT CERTIFICATE [PLAN] [{JSON} | {DOT} | {COVERAGE} | {LADDER}] [{CALL} N] [{STRICT}] [--quiet]"
+FORM = arguments.Form(2, 3, (CALL,), (JSON, DOT, COVERAGE, LADDER, STRICT))
 # The number of a call, in decimal digits without leading zeros.
 NUMBER = re.compile(r"0|[1-9][0-9]{0,9}")
 # What is asked for: the names of the files, the word of the form or None for words, and the words for the program beside that of the form.
@@ -16,24 +16,19 @@ Wanted = namedtuple("Wanted", "names form words")
 
 
 def wanted(given, usage):
-    """What the words of a tool ask for: files first, and behind them what goes with so many."""
-    count = next((place for place, word in enumerate(given) if word.startswith("-")), len(given))
-    names, words = given[:count], given[count:]
-    forms = [word for word in words if word in (JSON, DOT, COVERAGE, LADDER)]
-    number = words[words.index(CALL) : words.index(CALL) + 2] if CALL in words else []
-    has_plan, is_strict = count == 3, STRICT in words
+    """What the words of a tool ask for."""
+    names, options = arguments.read(FORM, given, usage)
+    forms = [word for word in options if word in (JSON, DOT, COVERAGE, LADDER)]
+    number, has_plan, is_strict = options.get(CALL), len(names) == 3, STRICT in options
     fit = (
-        count in (2, 3),
-        "" not in names,
         len(forms) <= 1,
-        sorted(words) == sorted([*forms, *number, *([STRICT] if is_strict else [])]),
-        not number or has_plan and len(number) == 2 and NUMBER.fullmatch(number[1]),
+        number is None or has_plan and NUMBER.fullmatch(number),
         not is_strict or not has_plan and forms in ([], [JSON]),
         has_plan if LADDER in forms else not has_plan if DOT in forms or COVERAGE in forms else True,
     )
     if not all(fit):
         asking.stop(f"usage: {usage}", asking.WORDS)
-    return Wanted(names, *(forms or [None]), [*number, *([STRICT] if is_strict else [])])
+    return Wanted(names, *(forms or [None]), [*([CALL, number] if number is not None else []), *([STRICT] if is_strict else [])])
 
 
 def text_of(paragraphs):

@@ -4,7 +4,7 @@ import os
 import sys
 from pathlib import Path
 
-from shared import asking, streams
+from shared import arguments, asking, notes
 
 LIBRARY = Path(__file__).resolve().parents[1]
 PROGRAMS = LIBRARY.parents[1] / "bin"
@@ -28,21 +28,21 @@ def said_of(name):
     return "proved" if is_proved() else "built without its proofs"
 
 
-def words(about, usage, least, most=None):
-    """The words that a command was given, from so many to so many. With --help it says what it does, and with --version which it is, with status 0."""
-    if "--version" in sys.argv[1:]:
+def words(about, usage):
+    """The words that a command was given. With --help it says what it does, and with --version which it is, with status 0."""
+    if "--version" in arguments.options_in(sys.argv[1:]):
         print(usage.split()[0], version(), *([] if is_proved() else ["with programs that are not proved"]))
         sys.exit(0)
-    return asking.words(about, usage, least, most)
+    return asking.words(about, usage)
 
 
 def program(name):
-    """The program of this name. Where it isn't proved, a note on standard error says so."""
+    """The program of this name. If it isn't proved, a note on standard error says so, once."""
     found = PROGRAMS / name
     if not os.access(found, os.X_OK) or found.is_dir():
         asking.stop(f"{found}: no program is there", asking.NO_PROGRAM)
     if not is_proved():
-        streams.note("answered by a program that is not proved")
+        notes.once("answered by a program that is not proved")
     return found
 
 

@@ -5,7 +5,7 @@ import sys
 import threading
 import time
 
-from shared import streams
+from shared import notes, streams
 
 # How long a line stands at least before it is written anew, in seconds.
 PAUSE = 0.1
@@ -69,7 +69,10 @@ class Lines:
 
 @contextlib.contextmanager
 def line():
-    """What tells how far the work has come; a terminal's line is gone at the end, however the work ends."""
+    """What tells how far the work has come; a terminal's line is gone at the end, however the work ends. With `--quiet` nothing is told."""
+    if notes.is_quiet():
+        yield lambda text: None
+        return
     shown = (Line if sys.stderr.isatty() else Lines)(sys.stderr)
     try:
         yield shown.tell

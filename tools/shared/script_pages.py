@@ -10,7 +10,7 @@ from collections import namedtuple
 from pathlib import Path
 
 from shared import (
-    asking, certificates, check_words, coverage_cells, explained, ladders, marked_pictures, messages, pictures, run_words, scripts, warning_words,
+    arguments, asking, certificates, check_words, coverage_cells, explained, ladders, marked_pictures, messages, pictures, run_words, scripts, warning_words,
 )
 
 try:
@@ -19,7 +19,8 @@ except ImportError:
     jinja2 = None
 
 TARGET = "-o"
-USAGE = f"SCRIPT CERTIFICATE [PLAN] {TARGET} FILE"
+USAGE = f"SCRIPT CERTIFICATE [PLAN] {TARGET} FILE [--quiet]"
+FORM = arguments.Form(2, 3, (TARGET,))
 TEMPLATE = Path(__file__).with_name("script_page.html")
 # The statuses with which there is a page.
 YES, NO = 0, 1
@@ -41,11 +42,10 @@ DOT = ("dot", "-Tsvg", "-Gbgcolor=transparent", "-Nfontname=Helvetica", "-Nfonts
 
 def wanted(given, usage):
     """What the words of a tool ask for."""
-    place = given.index(TARGET) if TARGET in given else len(given)
-    names, targets = given[:place] + given[place + 2 :], given[place + 1 : place + 2]
-    if not 2 <= len(names) <= 3 or len(targets) != 1 or any(not name or name.startswith("-") for name in names + targets):
+    names, options = arguments.read(FORM, given, usage)
+    if TARGET not in options:
         asking.stop(f"usage: {usage}", asking.WORDS)
-    return Wanted(names, targets[0])
+    return Wanted(names, options[TARGET])
 
 
 def can_draw():

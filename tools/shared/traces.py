@@ -6,24 +6,18 @@ import shutil
 from collections import namedtuple
 from pathlib import Path
 
-from shared import annex_b, asking, capture, explained, messages, run_words, scripts
+from shared import annex_b, arguments, asking, capture, explained, messages, run_words, scripts
 
 CALL, FOLDER, CAPTURE = "--call", "--messages", "--pcap"
-USAGE = f"SCRIPT CERTIFICATE PLAN [{CALL} N] [{FOLDER} DIR] [{CAPTURE} FILE]"
+USAGE = f"SCRIPT CERTIFICATE PLAN [{CALL} N] [{FOLDER} DIR] [{CAPTURE} FILE] [--quiet]"
+FORM = arguments.Form(3, 3, (CALL, FOLDER, CAPTURE))
 # What is asked for: the names of the three files, and by their words the number, the folder and the file; None where one isn't asked for.
 Wanted = namedtuple("Wanted", "names call folder capture")
 
 
 def wanted(given, usage):
     """What the words of a tool ask for."""
-    words, names, options = iter(given), [], {}
-    for word in words:
-        if word in (CALL, FOLDER, CAPTURE) and word not in options:
-            options[word] = next(words, "")
-        else:
-            names.append(word)
-    if len(names) != 3 or any(not word or word.startswith("-") for word in [*names, *options.values()]):
-        asking.stop(f"usage: {usage}", asking.WORDS)
+    names, options = arguments.read(FORM, given, usage)
     return Wanted(names, *(options.get(word) for word in (CALL, FOLDER, CAPTURE)))
 
 

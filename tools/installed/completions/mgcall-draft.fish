@@ -8,3 +8,4 @@ complete -c mgcall-draft -f -n 'test (count (commandline -opc)) -eq 2' -a '(__fi
 complete -c mgcall-draft -n 'test (count (commandline -opc)) -ge 2' -s o -r -d 'the file that is written'
 complete -c mgcall-draft -f -n 'test (count (commandline -opc)) -ge 2' -l wide -d 'join entries that differ in one component alone'
 complete -c mgcall-draft -f -n 'test (count (commandline -opc)) -ge 2' -l whole -d 'go on past a no of K3 or K4'
+complete -c mgcall-draft -f -n 'test (count (commandline -opc)) -ge 2' -l quiet -d 'no note on the program, and no progress'

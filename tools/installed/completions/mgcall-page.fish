@@ -7,3 +7,4 @@ complete -c mgcall-page -f -n 'test (count (commandline -opc)) -eq 1' -a '(__fis
 complete -c mgcall-page -f -n 'test (count (commandline -opc)) -eq 2' -a '(__fish_complete_suffix .json)' -d certificate
 complete -c mgcall-page -f -n 'test (count (commandline -opc)) -eq 3' -a '(__fish_complete_suffix .toml)' -d plan
 complete -c mgcall-page -n 'test (count (commandline -opc)) -ge 3' -s o -r -d 'the page that is written'
+complete -c mgcall-page -f -n 'test (count (commandline -opc)) -ge 2' -l quiet -d 'no note on the program, and no progress'

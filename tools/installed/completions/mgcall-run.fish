@@ -6,3 +6,5 @@ complete -c mgcall-run -f -n 'test (count (commandline -opc)) -eq 1' -l version 
 complete -c mgcall-run -f -n 'test (count (commandline -opc)) -eq 1' -a '(__fish_complete_suffix .toml)' -d script
 complete -c mgcall-run -f -n 'test (count (commandline -opc)) -eq 2' -a '(__fish_complete_suffix .json)' -d certificate
 complete -c mgcall-run -f -n 'test (count (commandline -opc)) -eq 3' -a '(__fish_complete_suffix .toml)' -d plan
+complete -c mgcall-run -f -n 'test (count (commandline -opc)) -ge 2' -l quiet -d 'no note on the program, and no progress'
+complete -c mgcall-run -x -n 'test (count (commandline -opc)) -ge 2' -l workers -d 'on how many workers'

@@ -9,3 +9,4 @@ complete -c mgcall-trace -f -n 'test (count (commandline -opc)) -eq 3' -a '(__fi
 complete -c mgcall-trace -n 'test (count (commandline -opc)) -ge 4' -l call -x -d 'one call of a plan'
 complete -c mgcall-trace -n 'test (count (commandline -opc)) -ge 4' -l messages -r -d 'each message in a file of its own'
 complete -c mgcall-trace -n 'test (count (commandline -opc)) -ge 4' -l pcap -r -d 'a capture for Wireshark'
+complete -c mgcall-trace -f -n 'test (count (commandline -opc)) -ge 2' -l quiet -d 'no note on the program, and no progress'

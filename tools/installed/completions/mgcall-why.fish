@@ -12,3 +12,4 @@ complete -c mgcall-why -f -n 'test (count (commandline -opc)) -eq 3' -a '(__fish
 complete -c mgcall-why -n 'test (count (commandline -opc)) -ge 3' -l ladder -d 'the messages of a run'
 complete -c mgcall-why -n 'test (count (commandline -opc)) -ge 3' -l call -x -d 'one call of a plan'
 complete -c mgcall-why -n 'test (count (commandline -opc)) -eq 3' -l strict -d 'status 1 for a yes with a warning'
+complete -c mgcall-why -f -n 'test (count (commandline -opc)) -ge 2' -l quiet -d 'no note on the program, and no progress'

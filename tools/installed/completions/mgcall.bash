@@ -14,6 +14,8 @@ _mgcall_over_files() {
     local kinds=("$@")
     if [[ $place == 1 && $current == -* ]]; then
         COMPREPLY=($(compgen -W '--help --version' -- "$current"))
+    elif [[ $current == -* ]]; then
+        COMPREPLY=($(compgen -W '--quiet' -- "$current"))
     elif ((place <= ${#kinds[@]})); then
         _mgcall_files "${kinds[place - 1]}" "$current"
     fi
@@ -40,10 +42,16 @@ _mgcall() {
         fi
         ;;
     mgcall-check) _mgcall_over_files "$current" "$place" toml json ;;
-    mgcall-run) _mgcall_over_files "$current" "$place" toml json toml ;;
+    mgcall-run)
+        if ((place > 1)) && [[ $current == -* ]]; then
+            COMPREPLY=($(compgen -W '--workers --quiet' -- "$current"))
+        else
+            _mgcall_over_files "$current" "$place" toml json toml
+        fi
+        ;;
     mgcall-why)
         if ((place > 3)) || [[ $place == 3 && $current == -* ]]; then
-            COMPREPLY=($(compgen -W '--json --dot --coverage --ladder --call --strict' -- "$current"))
+            COMPREPLY=($(compgen -W '--json --dot --coverage --ladder --call --strict --quiet' -- "$current"))
         else
             _mgcall_over_files "$current" "$place" toml json toml
         fi
@@ -52,7 +60,7 @@ _mgcall() {
         if [[ ${COMP_WORDS[COMP_CWORD - 1]} == -o ]]; then
             _mgcall_files json "$current"
         elif ((place > 1)) && [[ $current == -* ]]; then
-            COMPREPLY=($(compgen -W '-o --wide --whole' -- "$current"))
+            COMPREPLY=($(compgen -W '-o --wide --whole --quiet' -- "$current"))
         else
             _mgcall_over_files "$current" "$place" toml json
         fi
@@ -65,7 +73,7 @@ _mgcall() {
         --pcap) _mgcall_files pcapng "$current" ;;
         *)
             if ((place > 3)); then
-                COMPREPLY=($(compgen -W '--call --messages --pcap' -- "$current"))
+                COMPREPLY=($(compgen -W '--call --messages --pcap --quiet' -- "$current"))
             else
                 _mgcall_over_files "$current" "$place" toml json toml
             fi
@@ -76,14 +84,18 @@ _mgcall() {
         if [[ ${COMP_WORDS[COMP_CWORD - 1]} == -o ]]; then
             _mgcall_files html "$current"
         elif ((place > 3)) || [[ $place == 3 && $current == -* ]]; then
-            COMPREPLY=($(compgen -W '-o' -- "$current"))
+            COMPREPLY=($(compgen -W '-o --quiet' -- "$current"))
         else
             _mgcall_over_files "$current" "$place" toml json toml
         fi
         ;;
     mgcall-mistakes)
-        if ((place > 3)) || [[ $place -gt 1 && $current == -* ]]; then
-            COMPREPLY=($(compgen -W '--json' -- "$current"))
+        if [[ ${COMP_WORDS[COMP_CWORD - 1]} == --certificate ]]; then
+            _mgcall_files json "$current"
+        elif [[ ${COMP_WORDS[COMP_CWORD - 1]} == --plan ]]; then
+            _mgcall_files toml "$current"
+        elif ((place > 3)) || [[ $place -gt 1 && $current == -* ]]; then
+            COMPREPLY=($(compgen -W '--json --certificate --plan --quiet' -- "$current"))
         else
             _mgcall_over_files "$current" "$place" toml json toml
         fi

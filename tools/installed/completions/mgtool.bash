@@ -8,7 +8,7 @@ _mgtool_files() {
 }
 
 _mgtool() {
-    local current=${COMP_WORDS[COMP_CWORD]} before=${COMP_WORDS[COMP_CWORD - 1]} command= at=1 files=0 options='--help --version --proved' kinds=
+    local current=${COMP_WORDS[COMP_CWORD]} before=${COMP_WORDS[COMP_CWORD - 1]} command= at=1 files=0 many=0 options='--help --version --proved' kinds=
     COMPREPLY=()
     while ((at < COMP_CWORD)); do
         case ${COMP_WORDS[at]} in
@@ -20,17 +20,17 @@ _mgtool() {
     done
     case $command in
     '') kinds=command ;;
-    check) options='--certificate --strict --format --pieces --help --version --proved' kinds='toml' ;;
-    why) options='--certificate --json --dot --ladder --call --strict --help --version --proved' kinds='toml toml' ;;
-    test) options='--certificate --scenarios -k --faults --record --format --help --version --proved' kinds='toml' ;;
-    plan) options='--certificate --scenarios -k --help --version --proved' kinds='toml' ;;
-    draft) options='--certificate -o --wide --whole --help --version --proved' kinds='toml' ;;
-    coverage) options='--certificate --intents --brief --format --help --version --proved' kinds='toml' ;;
-    run) options='--certificate --workers --help --version --proved' kinds='toml toml' ;;
-    trace) options='--certificate --call --messages --pcap --help --version --proved' kinds='toml toml' ;;
-    page) options='--certificate -o --help --version --proved' kinds='toml toml' ;;
-    picture) options='--help --version --proved' kinds='toml' ;;
-    watch) options='--certificate --changes --help --version --proved' kinds='toml' ;;
+    check) options='--certificate --strict --format --pieces --quiet --help --version --proved' kinds='toml' many=1 ;;
+    why) options='--certificate --json --dot --ladder --call --strict --quiet --help --version --proved' kinds='toml toml' ;;
+    test) options='--certificate --scenarios -k --faults --record --format --quiet --help --version --proved' kinds='toml' ;;
+    plan) options='--certificate --scenarios -k --quiet --help --version --proved' kinds='toml' ;;
+    draft) options='--certificate -o --wide --whole --quiet --help --version --proved' kinds='toml' ;;
+    coverage) options='--certificate --intents --brief --format --quiet --help --version --proved' kinds='toml' ;;
+    run) options='--certificate --workers --quiet --help --version --proved' kinds='toml toml' ;;
+    trace) options='--certificate --call --messages --pcap --quiet --help --version --proved' kinds='toml toml' ;;
+    page) options='--certificate -o --quiet --help --version --proved' kinds='toml toml' ;;
+    picture) options='--quiet --help --version --proved' kinds='toml' ;;
+    watch) options='--certificate --changes --quiet --help --version --proved' kinds='toml' ;;
     esac
     case $before in
     --certificate) _mgtool_files json "$current" ;;
@@ -52,8 +52,8 @@ _mgtool() {
             COMPREPLY=($(compgen -W "$options" -- "$current"))
         elif [[ $kinds == command ]]; then
             COMPREPLY=($(compgen -W 'check why test plan draft coverage run trace page picture watch' -- "$current"))
-        elif ((files < ${#kinds[@]})); then
-            _mgtool_files "${kinds[files]}" "$current"
+        elif ((many || files < ${#kinds[@]})); then
+            _mgtool_files "${kinds[many ? 0 : files]}" "$current"
         fi
         ;;
     esac

@@ -1,5 +1,7 @@
 """`mgtool check`: all that is wrong with a script by its place, and the line of `mgcall check` with its status. It is installed too, so it knows nothing of
 this repository."""
+import functools
+
 from shared import asking, explained
 from shared.door import forms, inputs, kept, meant, verdicts
 from shared.door.declarations import TEXT
@@ -65,12 +67,21 @@ def report(asked, script, named, find):
     return Report(script.name, line, strictly if status == YES else status, found, texts)
 
 
+def untaken(asked, refused):
+    """The reports of files that can't be taken: one for one script, else one for each file."""
+    if len(asked.scripts) == 1:
+        return [Report(asked.scripts[0], "", asking.FILES, refused, {})]
+    return [Report(one.file, "", asking.FILES, [one], {}) for one in refused]
+
+
 def done(asked, find):
-    """Checks what is asked for, and tells of it in the form that is asked for; gives the status."""
-    given, refused = inputs.read_all({SCRIPT: asked.script, CERTIFICATE: asked.certificate})
-    if refused:
-        told = Report(asked.script, "", asking.FILES, refused, {})
+    """Checks what is asked for, and tells of it in the form that is asked for; gives the status. If a file can't be taken, none is checked."""
+    if asked.certificate is not None and len(asked.scripts) > 1:
+        asked.refuse(f"{inputs.NAMED} goes with one script")
+    given, refused = inputs.read_each([(SCRIPT, name) for name in asked.scripts])
+    named, more = inputs.read_all({CERTIFICATE: asked.certificate})
+    if refused or more:
+        works = [(one.script, functools.partial(Report, *one)) for one in untaken(asked, [*refused, *more])]
     else:
-        told = report(asked, given[SCRIPT], given.get(CERTIFICATE), find)
-    forms.write(asked.format or TEXT, told)
-    return told.status
+        works = [(one.name, functools.partial(report, asked, one, named.get(CERTIFICATE), find)) for one in given]
+    return forms.write(asked.format or TEXT, works)

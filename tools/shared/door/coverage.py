@@ -89,15 +89,25 @@ def text_of(found, script, is_brief):
     return f"{lines}\n{of_intents}" if of_intents else lines
 
 
+def answer(asked, given, find):
+    """What coverage of files that were read comes to; as JSON also if the command stops on the way."""
+    try:
+        return told(asked, given, find)
+    except asking.Stopped as stopped:
+        if asked.format != declarations.JSON:
+            raise
+        return Told(forms.report_of_stop(asked.script, stopped))
+
+
 def done(asked, find):
     """Tells what is asked for; gives the status."""
     given, refused = inputs.read_all({SCRIPT: asked.script, CERTIFICATE: asked.certificate, SCENARIOS: named(asked)})
-    found = Told(Report(asked.script, "", asking.FILES, refused, {})) if refused else told(asked, given, find)
+    found = Told(Report(asked.script, "", asking.FILES, refused, {})) if refused else answer(asked, given, find)
     if asked.format == declarations.JSON:
         more = {} if found.page is None else {"facts": found.page}
         print(forms.value(found.report, **more), end="")
     elif found.page is None:
-        forms.write(declarations.TEXT, found.report)
+        forms.write_text(found.report)
     else:
         print(text_of(found, given[SCRIPT], asked.is_brief), end="")
     return found.report.status

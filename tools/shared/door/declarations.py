@@ -4,8 +4,8 @@ from collections import namedtuple
 
 TOOL = "mgtool"
 # A file that a command takes: under which key it is kept, how it is shown, what is said of it, whether it has to be there, and the end of such files' names.
-# Where that is ANY it is a name of something else, of which there may be several.
-Operand = namedtuple("Operand", "key shown about is_needed kind")
+# Where that is ANY it is a name of something else, of which there may be several. The last says whether there may be several such files.
+Operand = namedtuple("Operand", "key shown about is_needed kind is_many", defaults=(False,))
 # An option: its key, its word, how its value is shown, which is None where it takes none, what is said of it, and what may stand there: words, the end of a
 # file's name, `/` for a folder, the smallest and the largest number, or any word.
 Option = namedtuple("Option", "key word value about kind")
@@ -15,6 +15,9 @@ Command = namedtuple("Command", "name about more operands options")
 ANY = ()
 SCRIPT = Operand("script", "SCRIPT", "the script, a TOML document; `-` is standard input", True, "toml")
 PLAN = Operand("plan", "PLAN", "the plan of a run, a TOML document; `-` is standard input", False, "toml")
+SCRIPTS = Operand(
+    "scripts", "SCRIPT..", "the scripts, TOML documents; `-` is standard input. Of several, each answer has the name of its script before it.", True, "toml", True,
+)
 SCENARIO = Operand("names", "SCENARIO..", "the names of scenarios; without one all are taken", False, ANY)
 CERTIFICATE = Option(
     "certificate", "--certificate", "FILE",
@@ -26,6 +29,7 @@ CALL = Option("call", "--call", "N", "Of a plan: tell the call with this number 
 SCENARIOS = Option(
     "scenarios", "--scenarios", "FILE", "The file of scenarios; `-` is standard input. Without it the one beside the script is taken.", "toml",
 )
+QUIET = Option("is_quiet", "--quiet", None, "Print neither how far the work has come nor that the program which answers isn't proved.", None)
 TEXT, JSON, SARIF, JUNIT = FORMATS = ("text", "json", "sarif", "junit")
 STANDARD = "-"
 
@@ -60,8 +64,9 @@ COMMANDS = (
         "check a script, and tell all that is wrong with it by its place",
         "Each mistake of the script, and of a certificate that is named, stands in a line as compilers write it: FILE:LINE:COL: error: TEXT. A No has its "
         "state, its command and the way of a call there as notes, a yes has what is warned of in the order of the files. Lines and columns count from 1, "
-        "columns in bytes. The last line is that of `mgcall check`, and the status is its status.",
-        (SCRIPT,),
+        "columns in bytes. The last line is that of `mgcall check`, and the status is its status. Of several scripts it is the highest, and if a file can't be "
+        "taken, none is checked.",
+        (SCRIPTS,),
         (
             CERTIFICATE,
             Option(
@@ -155,7 +160,7 @@ COMMANDS = (
         "run a plan of a script",
         "It prints the report of `mgcall run`, and ends with its status.",
         (SCRIPT, PLAN._replace(is_needed=True)),
-        (CERTIFICATE, Option("workers", "--workers", "N", "Run the plan on so many workers, 1 to 64; one where it isn't given.", (0, 65_535))),
+        (CERTIFICATE, Option("workers", "--workers", "N", "Run the plan on so many workers, 1 to 64; one where it isn't given.", (1, 64))),
     ),
     Command(
         "trace",
@@ -195,6 +200,8 @@ COMMANDS = (
         ),
     ),
 )
+# Each command has the option that silences notes.
+COMMANDS = tuple(one._replace(options=(*one.options, QUIET)) for one in COMMANDS)
 # Options that have to be given.
 NEEDED = {"page": ("target",)}
 HELP = Option("help", "--help", None, "Say what it does and what its words are.", None)

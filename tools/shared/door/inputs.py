@@ -15,6 +15,8 @@ SCRIPT, CERTIFICATE, PLAN, SCENARIOS = KINDS = ("script", "certificate", "plan",
 STANDARD_INPUT = "<stdin>"
 # The rule that is broken where a file can't be taken.
 RULE = "input"
+# The option of a certificate.
+NAMED = declarations.CERTIFICATE.word
 # What an empty file lacks.
 EMPTY = {
     SCRIPT: "a script names its `lines`, its `start`, its `restart` and its states",
@@ -34,6 +36,14 @@ class Refused(Exception):
     def __init__(self, told):
         super().__init__(told.text)
         self.told = told
+
+
+class NotTaken(asking.Stopped):
+    """The end of a command, since files can't be taken: with an error of each."""
+
+    def __init__(self, refused):
+        super().__init__("\n".join(map(line, refused)), asking.FILES)
+        self.refused = refused
 
 
 def taken(name):
@@ -70,7 +80,8 @@ def fault_of(kind, text):
         return Place(before.count(b"\n") + 1, fault.start - before.rfind(b"\n")), "a byte that isn't of UTF-8"
     seems = kind_of(text)
     if seems not in (None, kind):
-        return TOP, f"this is a {seems}, and a {kind} has to stand in its place"
+        named = f"; {NAMED} names it" if seems == CERTIFICATE else ""
+        return TOP, f"this is a {seems}, and a {kind} has to stand in its place{named}"
     return None
 
 
@@ -86,21 +97,28 @@ def read(kind, name):
     return Given(kind, shown, text)
 
 
+def read_each(names):
+    """The files of these kinds and names, and the errors of those that can't be taken."""
+    found, refused = [], []
+    for kind, name in names:
+        try:
+            found.append(read(kind, name))
+        except Refused as fault:
+            refused.append(fault.told)
+    return found, refused
+
+
 def read_all(names):
     """The files of these names by their kinds, without those that aren't named; and the errors of those that can't be taken."""
-    found, refused = {}, []
-    for kind, name in names.items():
-        if name is not None:
-            try:
-                found[kind] = read(kind, name)
-            except Refused as fault:
-                refused.append(fault.told)
-    return found, refused
+    found, refused = read_each([(kind, name) for kind, name in names.items() if name is not None])
+    return {one.kind: one for one in found}, refused
 
 
 def needed(names):
     """The files of these names. Where one can't be taken the tool ends, with a line for each such."""
     found, refused = read_all(names)
     if refused:
-        asking.stop("\n".join(map(line, refused)), asking.FILES)
+        stopped = NotTaken(refused)
+        print(stopped.said, file=sys.stderr)
+        raise stopped
     return found

@@ -1,4 +1,4 @@
-"""What a check comes to as JUnit XML: one test, which is the script. A No, and with --strict a warning, is a failure; what can't be read, and want of an
+"""What a check comes to as JUnit XML: a test for each script. A No, and with --strict a warning, is a failure; what can't be read, and want of an
 answer, is an error. It is installed too, so it knows nothing of this repository."""
 import re
 from xml.sax.saxutils import escape, quoteattr
@@ -26,12 +26,17 @@ def outcome(report):
     yield f"<system-out>{escape(plain(report.line) if report.status else f'{lines}{chr(10) * bool(lines)}{plain(report.line)}')}</system-out>"
 
 
-def written(report):
-    """The text of the file."""
-    failed = report.status == FAILED
-    head = f'tests="1" failures="{int(failed)}" errors="{int(bool(report.status) and not failed)}"'
+def case(report):
+    """The test of a script."""
     name = quoteattr(plain(report.script))
+    return f'<testcase classname="mgtool.check" name={name} file={name}>{"".join(outcome(report))}</testcase>\n'
+
+
+def written(reports):
+    """The text of the file: a test for each script."""
+    failed = sum(report.status == FAILED for report in reports)
+    head = f'tests="{len(reports)}" failures="{failed}" errors="{sum(bool(report.status) for report in reports) - failed}"'
     return (
         f'<?xml version="1.0" encoding="UTF-8"?>\n<testsuites {head}>\n<testsuite name="mgtool" {head}>\n'
-        f'<testcase classname="mgtool.check" name={name} file={name}>{"".join(outcome(report))}</testcase>\n</testsuite>\n</testsuites>\n'
+        f'{"".join(map(case, reports))}</testsuite>\n</testsuites>\n'
     )

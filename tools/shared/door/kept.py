@@ -134,9 +134,17 @@ def of(script, named, find):
     return Given(CERTIFICATE, NOWHERE, draft.text)
 
 
+def named(asked):
+    """The files that are named to a command, by their kinds: its script, the certificate, and the plan."""
+    return inputs.needed({inputs.SCRIPT: asked.script, CERTIFICATE: asked.certificate, inputs.PLAN: getattr(asked, inputs.PLAN, None)})
+
+
 def files(asked, find):
-    """The files that a command asks for: its script, the certificate of that, and its plan where one is named."""
-    names = {inputs.SCRIPT: asked.script, CERTIFICATE: asked.certificate, inputs.PLAN: getattr(asked, inputs.PLAN, None)}
-    given = inputs.needed(names)
+    """The files that a command asks for: its script, the certificate of that, and its plan if one is named."""
+    return completed(named(asked), find)
+
+
+def completed(given, find):
+    """The same of files that were read."""
     certificate = of(given[inputs.SCRIPT], given.get(CERTIFICATE), find)
     return [given[inputs.SCRIPT], certificate, *([given[inputs.PLAN]] if inputs.PLAN in given else [])]

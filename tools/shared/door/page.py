@@ -5,6 +5,7 @@ from shared.door import kept
 
 def done(asked, find):
     """Writes the page; gives the status."""
+    named = kept.named(asked)
     script_pages.can_draw()
-    given = kept.files(asked, find)
+    given = kept.completed(named, find)
     return script_pages.made(script_pages.Wanted([one.name for one in given], asked.target), [one.text for one in given], find)

@@ -59,15 +59,18 @@ def rules(diagnostics):
         yield {"id": name, "shortDescription": {"text": says}}
 
 
-def written(report):
-    """The text of the log."""
-    invocation = {"executionSuccessful": report.status in MADE, "exitCode": report.status}
-    if report.line:
-        invocation["exitCodeDescription"] = report.line
+def invocation(report):
+    """How the check of a script ended."""
+    found = {"executionSuccessful": report.status in MADE, "exitCode": report.status}
+    return {**found, "exitCodeDescription": report.line} if report.line else found
+
+
+def written(reports):
+    """The text of the log: one run, with an invocation for each script."""
     run = {
-        "tool": {"driver": {"name": "mgtool", "rules": [*rules(report.diagnostics)]}},
+        "tool": {"driver": {"name": "mgtool", "rules": [*rules([told for report in reports for told in report.diagnostics])]}},
         "columnKind": "unicodeCodePoints",
-        "invocations": [invocation],
-        "results": results(report),
+        "invocations": [*map(invocation, reports)],
+        "results": [found for report in reports for found in results(report)],
     }
     return json.dumps({"$schema": SCHEMA, "version": VERSION, "runs": [run]}, indent=1) + "\n"

@@ -14,11 +14,11 @@ def refused(asked, report):
     """Tells why no scenario is run; gives the status."""
     if asked.format == JSON:
         value = {"format": told.FORMAT, "status": report.status, **({"line": report.line} if report.line else {}), "passed": 0, "failed": 0}
-        print(json.dumps({**value, "scenarios": [], "diagnostics": [*map(forms.record, report.diagnostics)]}, ensure_ascii=False))
+        print(json.dumps({**value, "scenarios": [], "diagnostics": [*map(forms.record, report.diagnostics)]}))
     elif asked.format == JUNIT:
-        print(junit.written(report), end="")
+        print(junit.written([report]), end="")
     else:
-        forms.write(TEXT, report)
+        forms.write_text(report)
     return report.status
 
 
@@ -67,12 +67,22 @@ def run(asked, runner, files, find):
     return write(asked, came, intents, given)
 
 
-def done(asked, find):
-    """Runs what is asked for; gives the status."""
-    if asked.target is not None and asked.has_faults:
-        asked.refuse("--record and --faults don't go together")
+def tested(asked, find):
+    """Runs the scenarios of the files that are asked for; gives the status."""
     files, report = scenario_files.taken(asked, find)
     if report is not None:
         return refused(asked, report)
     with scenario_files.runner(files, find) as runner:
         return run(asked, runner, files, find)
+
+
+def done(asked, find):
+    """Runs what is asked for; gives the status."""
+    if asked.target is not None and asked.has_faults:
+        asked.refuse("--record and --faults don't go together")
+    try:
+        return tested(asked, find)
+    except asking.Stopped as stopped:
+        if asked.format in (None, TEXT):
+            raise
+        return refused(asked, forms.report_of_stop(asked.script, stopped))

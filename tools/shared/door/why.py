@@ -1,6 +1,6 @@
 """`mgtool why`: what the check comes to, or with a plan what each of its steps does, in words. It is installed too, so it knows nothing of this repository."""
-from shared import explained
-from shared.door import kept
+from shared import asking, explained
+from shared.door import forms, kept
 
 
 def forms_of(asked):
@@ -23,12 +23,34 @@ def fault_of(asked, forms):
     return None
 
 
+def facts_of(asked, words, find):
+    """The status of mgexplain, and the JSON value of its facts."""
+    texts = [one.text for one in kept.files(asked, find)]
+    status, output = asking.told(find("mgexplain"), [explained.JSON, *words], texts)
+    if not output:
+        asking.stop(f"mgexplain ended with status {status}, and told nothing", status)
+    return status, output
+
+
+def told_as_json(asked, words, find):
+    """Prints the facts as one JSON value, or if there are none a value of the form of `check --format json` that says why; gives the status."""
+    try:
+        status, output = facts_of(asked, words, find)
+    except asking.Stopped as stopped:
+        report = forms.report_of_stop(asked.script, stopped)
+        status, output = report.status, forms.value(report)
+    print(output, end="")
+    return status
+
+
 def done(asked, find):
     """Says what is asked for; gives the status."""
-    forms = forms_of(asked)
-    if fault := fault_of(asked, forms):
+    found = forms_of(asked)
+    if fault := fault_of(asked, found):
         asked.refuse(fault)
-    given = kept.files(asked, find)
     words = [*([explained.CALL, asked.call] if asked.call is not None else []), *([explained.STRICT] if asked.is_strict else [])]
-    wanted = explained.Wanted([one.name for one in given], *(forms or [None]), words)
+    if asked.is_json:
+        return told_as_json(asked, words, find)
+    given = kept.files(asked, find)
+    wanted = explained.Wanted([one.name for one in given], *(found or [None]), words)
     return explained.answered(wanted, [one.text for one in given], find)

@@ -3,12 +3,14 @@ that may have been meant. It is installed too, so it knows nothing of this repos
 import argparse
 import re
 
-from shared import asking
+from shared import arguments, asking, notes
 from shared.door import declarations
 from shared.mistakes.near import nearest
 
 WIDTH, COLUMN = 100, 26
-NUMBER = re.compile(r"0|[1-9][0-9]{0,9}")
+# What is said of a certificate in the place of another file, and how files that are certificates end.
+NAMED, CERTIFICATES = " (--certificate names a certificate)", ".json"
+NUMBER, NEGATIVE = re.compile(r"0|[1-9][0-9]{0,9}"), re.compile(r"-[0-9]+")
 
 
 class Parser(argparse.ArgumentParser):
@@ -78,7 +80,7 @@ def parser(tool, command):
         if operand.kind == declarations.ANY:
             names.add_argument(operand.key, nargs="*", default=(), **how)
         else:
-            files.add_argument(operand.key, nargs=None if operand.is_needed else "?", **how)
+            files.add_argument(operand.key, nargs="+" if operand.is_many else None if operand.is_needed else "?", **how)
     options = made.add_argument_group("options")
     for option in command.options:
         is_needed = option.key in declarations.NEEDED.get(command.name, ())
@@ -94,30 +96,58 @@ def known(command):
     return (*(option.word for option in command.options), declarations.PROVED.word, declarations.HELP.word, "-h")
 
 
-def unknown(command, given):
-    """The first word that looks like an option and is none of the command; none where there is none."""
-    looked_at = given[: given.index("--")] if "--" in given else given
-    options = (word for word in looked_at if word.startswith("-") and word != declarations.STANDARD)
+def parted_words(command: declarations.Command, given: list[str]) -> tuple[list[str], list[str]]:
+    """The options among words, each in one word with its value, and the files. The value is the next word, unless that looks like another option."""
+    takes_value = {option.word for option in command.options if option.value is not None}
+    words, options, files = iter(given), [], []
+    held = None
+    for word in words:
+        if held is not None:
+            is_value = not word.startswith("-") or word == declarations.STANDARD or NEGATIVE.fullmatch(word)
+            options.append(f"{held}={word}" if is_value else held)
+            held = None
+            if is_value:
+                continue
+        if word == arguments.END:
+            files += words
+        elif word in takes_value:
+            held = word
+        else:
+            (options if word.startswith("-") and word != declarations.STANDARD else files).append(word)
+    return [*options, *([held] if held is not None else [])], files
+
+
+def unknown(command, options):
+    """The first option that is none of the command; none where there is none."""
     return next((word for word in options if word.partition("=")[0] not in known(command)), None)
 
 
 def meant(word, words):
-    """What is said of the word that may have been meant."""
-    found = nearest(word, tuple(words))
+    """What is said of the word that may have been meant; an option of one letter may be any."""
+    found = nearest(word, tuple(words)) if len(word.lstrip("-")) > 1 else None
     return f" (did you mean {found}?)" if found else ""
+
+
+def surplus(command, word):
+    """What is said of a file too many."""
+    is_certificate = word.endswith(CERTIFICATES) and declarations.CERTIFICATE in command.options
+    return f"{word!r} isn't a word of it{NAMED if is_certificate else ''}"
 
 
 def asked(tool, command, given):
     """What words ask of a command, by the keys of the declarations; `refuse` ends the tool where they don't go together, with what is said of that."""
     made = parser(tool, command)
-    if (wrong := unknown(command, given)) is not None:
+    options, files = parted_words(command, given)
+    if (wrong := unknown(command, options)) is not None:
         made.error(f"{wrong!r} isn't a word of it{meant(wrong.partition('=')[0], known(command))}")
-    found, more = made.parse_known_intermixed_args(given)
+    found, more = made.parse_known_args([*options, *([arguments.END, *files] if files else [])])
     if more:
-        made.error(f"{more[0]!r} isn't a word of it")
-    inputs = [value for key in ("script", "plan", "certificate", "scenarios") if (value := getattr(found, key, None)) == declarations.STANDARD]
-    if len(inputs) > 1:
+        made.error(surplus(command, next(word for word in more if word != arguments.END)))
+    values = [getattr(found, key, None) for key in ("script", "plan", "certificate", "scenarios")]
+    if [*values, *getattr(found, "scripts", ())].count(declarations.STANDARD) > 1:
         made.error("standard input can be one file alone, and - is given twice")
+    if found.is_quiet:
+        notes.hush()
     found.refuse = made.error
     return found
 

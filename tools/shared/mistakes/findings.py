@@ -29,6 +29,11 @@ DIVIDER = re.compile(rb"^%%\r?$", re.MULTILINE)
 Mistake = namedtuple("Mistake", "document at_line at_column of fault_number fault_name path word says meant")
 
 
+def valid(name: str) -> str:
+    """A name without the surrogates that stand for bytes which aren't UTF-8."""
+    return name.encode(errors="surrogateescape").decode(errors="replace")
+
+
 class Findings:
     """What is found in one document, in whatever order."""
 

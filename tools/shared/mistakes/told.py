@@ -5,7 +5,7 @@ import json
 
 from shared import asking
 from shared.mistakes import certificate_rules, json_text, plan_rules, script_rules, script_shape, toml_text
-from shared.mistakes.findings import Findings, sentence
+from shared.mistakes.findings import Findings, printable, sentence, valid
 from shared.mistakes.nodes import Unread
 from shared.mistakes.reading import MARK
 
@@ -98,16 +98,16 @@ def mistakes(texts):
 def line(name, mistake):
     """A mistake in the file of this name as a compiler tells one."""
     fault = f"{mistake.of} fault {mistake.fault_number} {mistake.fault_name}"
-    return f"{name}:{mistake.at_line}:{mistake.at_column}: {fault}: {sentence(mistake)}"
+    return f"{printable(name)}:{mistake.at_line}:{mistake.at_column}: {fault}: {sentence(mistake)}"
 
 
 def record(name, mistake):
     """A mistake in the file of this name as an object, without what it hasn't."""
-    held = {"file": name} | mistake._asdict()
+    held = {"file": valid(name)} | mistake._asdict()
     return {key: value for key, value in held.items() if value not in (None, "")}
 
 
 def as_json(names, found):
-    """Mistakes as one JSON value."""
+    """Mistakes as one JSON value, in ASCII, so that it is UTF-8 whatever the locale is."""
     records = [record(names[mistake.document], mistake) for mistake in found]
-    return json.dumps({"format": 1, "mistakes": records}, ensure_ascii=False)
+    return json.dumps({"format": 1, "mistakes": records})

@@ -119,7 +119,7 @@ def as_json(outcomes, intents, name, text):
     passed, failed = counts(outcomes, intents)
     value = {"format": FORMAT, "status": int(failed > 0), "passed": passed, "failed": failed}
     value |= {"scenarios": [record(outcome, name, text) for outcome in outcomes], "intents": [*map(intended.record, intents)], "diagnostics": []}
-    return json.dumps(value, ensure_ascii=False) + "\n"
+    return json.dumps(value) + "\n"
 
 
 def case(outcome, name, text):
