@@ -1,4 +1,5 @@
-"""Trials of `mgtool check` of several scripts in each form, of JSON on every failure, and of names that are no UTF-8."""
+"""Trials of `mgtool check` of several scripts in each form, of JSON on every failure, of names that are no UTF-8, and of long documents with mistakes, of which
+no program is asked."""
 import json
 import os
 import shutil
@@ -6,9 +7,12 @@ import subprocess
 import xml.etree.ElementTree as xml
 from collections.abc import Iterator, Sequence
 from pathlib import Path
+from types import SimpleNamespace
 
-from gate import accepting, installing
-from shared.door import declarations
+from gate import accepting, installing, stored
+from shared.door import check, declarations, early
+from shared.door.inputs import CERTIFICATE, SCRIPT, Given
+from shared.mistakes import told as mistakes
 from shared.programs import TOP
 
 HOTLINE, TWIN = TOP / "gallery" / "hotline", TOP / "gallery" / "hotline" / "twin"
@@ -132,6 +136,45 @@ def of_names(top: Path) -> Iterator[tuple[str, bool]]:
             yield f"a name that is no UTF-8, {locale}: {status}, {output!r}, {error}", status == UNREADABLE and is_utf8 and is_json
 
 
+# ---- long documents
+
+
+def never(name: str) -> None:
+    """Finds no program: none is to be asked."""
+    raise AssertionError(f"{name} is asked")
+
+
+def long_documents() -> Iterator[tuple[str, bytes, bytes | None, str]]:
+    """Long documents with mistakes: what it is, the script, the certificate or none, and the line."""
+    script, certificate = ((HOTLINE / name).read_text() for name in ("script.toml", "certificate.json"))
+    states = "".join(f'[[state]]\nname = "s{number}"\ntimer = "idle"\n' for number in range(9000))
+    yield "many states", f"{script}{states}".encode(), None, "script fault 13 TooMany"
+    yield "many states, and a key that isn't known", f"{script.replace('timer', 'timeout')}{states}".encode(), None, FAULT
+    yield "no TOML", f"{script}{'# x' * early.LONG}\n[".encode(), None, "script fault 1 NotToml"
+    long = certificate.replace('"version":2', '"version":1') + " " * early.LONG
+    yield "a long certificate", script.encode(), long.encode(), "certificate fault 7 OldVersion"
+
+
+def of_long() -> Iterator[tuple[str, bool]]:
+    """What is told of long documents, without a program; and that the line is that of the program for each stored document with a fault."""
+    asked = SimpleNamespace(is_strict=False, pieces=None)
+    for name, script, certificate, line in long_documents():
+        named = None if certificate is None else Given(CERTIFICATE, "certificate", certificate)
+        try:
+            report = check.report(asked, Given(SCRIPT, "script", script), named, never)
+        except AssertionError as fault:
+            yield f"{name}: {fault}", False
+            continue
+        yield f"{name}: {report.line}", (report.line, report.status) == (line, UNREADABLE) and bool(report.diagnostics)
+    for one in stored.inputs():
+        given = [Given(kind, kind, text) for kind, text in zip((SCRIPT, CERTIFICATE), one.sections)]
+        found = mistakes.mistakes({part.kind: part.text for part in given})
+        if found and one.line.startswith(("script fault", "certificate fault")):
+            line = early.line_of(found, given, 0)
+            yield f"{one.name}: {line}", line in (None, one.line.splitlines()[0])
+            yield f"{one.name}, which is short", early.line_of(found, given) is None
+
+
 def tried(tool: Path, top: Path) -> Iterator[tuple[str, bool]]:
     """All trials, each part in a folder of its own."""
     for part in (of_several, of_json):
@@ -139,3 +182,4 @@ def tried(tool: Path, top: Path) -> Iterator[tuple[str, bool]]:
         yield from part(tool, top / part.__name__)
     (top / "names").mkdir()
     yield from of_names(top / "names")
+    yield from of_long()

@@ -3,7 +3,7 @@ this repository."""
 import functools
 
 from shared import asking, explained
-from shared.door import forms, inputs, kept, meant, verdicts
+from shared.door import early, forms, inputs, kept, meant, verdicts
 from shared.door.declarations import TEXT
 from shared.door.diagnostics import TOP, WARNING, Place, Report, error
 from shared.door.inputs import CERTIFICATE, SCRIPT
@@ -14,10 +14,20 @@ YES, NO = 0, 1
 STRICT = "--strict"
 
 
+def found_in(given):
+    """The mistakes of these files, in the order of the files."""
+    return mistakes.mistakes({one.kind: one.text for one in given})
+
+
 def mistaken(given):
     """The mistakes of these files as errors, in the order of the files."""
+    return errors(found_in(given), given)
+
+
+def errors(found, given):
+    """Mistakes of these files as errors."""
     names = {one.kind: one.name for one in given}
-    for one in mistakes.mistakes({one.kind: one.text for one in given}):
+    for one in found:
         path = f"{one.path}: " if one.path else ""
         meant = f" (did you mean `{one.meant}`?)" if one.meant is not None else ""
         rule = f"{one.of} fault {one.fault_number} {one.fault_name}"
@@ -55,9 +65,10 @@ def report(asked, script, named, find):
     """What the check comes to."""
     given = [one for one in (script, named) if one is not None]
     texts = {one.name: one.text for one in given}
-    if found := [*mistaken(given)]:
-        status, line = line_of(asked, script, named or kept.nothing(), find)
-        return Report(script.name, line, status, found, texts)
+    if found := found_in(given):
+        line = early.line_of(found, given)
+        status, line = (asking.FILES, line) if line else line_of(asked, script, named or kept.nothing(), find)
+        return Report(script.name, line, status, [*errors(found, given)], texts)
     certificate = kept.of(script, named, find)
     status, line = line_of(asked, script, certificate, find)
     texts[certificate.name] = certificate.text

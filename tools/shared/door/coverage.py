@@ -3,7 +3,7 @@ knows nothing of this repository."""
 import os
 
 from shared import asking, explained
-from shared.door import check, declarations, forms, inputs, intent_mistakes, intents, kept, places, verdicts
+from shared.door import check, declarations, early, forms, inputs, intent_mistakes, intents, kept, places, verdicts
 from shared.door.diagnostics import TOP, Report, error
 from shared.door.inputs import CERTIFICATE, SCENARIOS, SCRIPT
 
@@ -64,9 +64,11 @@ def told(asked, given, find):
     """What coverage of files that were read comes to."""
     script, certificate, file = given[SCRIPT], given.get(CERTIFICATE), given.get(SCENARIOS)
     texts = {one.name: one.text for one in given.values()}
-    if found := [*check.mistaken([one for one in (script, certificate) if one is not None])]:
-        status, _, line = facts(script, certificate or kept.nothing(), find)
-        return Told(Report(script.name, line, status, found, texts))
+    documents = [one for one in (script, certificate) if one is not None]
+    if found := check.found_in(documents):
+        line = early.line_of(found, documents)
+        status, line = (asking.FILES, line) if line else facts(script, certificate or kept.nothing(), find)[::2]
+        return Told(Report(script.name, line, status, [*check.errors(found, documents)], texts))
     if found := mistaken(asked, script, file):
         return Told(Report(script.name, "", asking.FILES, found, texts))
     certificate = kept.of(script, certificate, find)

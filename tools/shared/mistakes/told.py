@@ -5,7 +5,7 @@ import json
 
 from shared import asking
 from shared.mistakes import certificate_rules, json_text, plan_rules, script_rules, script_shape, toml_text
-from shared.mistakes.findings import Findings, printable, sentence, valid
+from shared.mistakes.findings import Findings, Mistake, printable, sentence, valid
 from shared.mistakes.nodes import Unread
 from shared.mistakes.reading import MARK
 
