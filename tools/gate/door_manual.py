@@ -12,7 +12,8 @@ EXAMPLES = (
     ("A page with a run:", "mgtool page my.toml my.plan.toml -o my.html"),
 )
 ORDER = (
-    "Options and files come in any order. A value is the next word, or follows a `=` in the word of its option. `--` ends the options, and `-` is standard input."
+    "Options and files come in any order. A value is the next word, or follows a `=` in the word of its option. `--` ends the options, and `-` is standard "
+    "input."
 )
 TOOL = "mgtool"
 manual = modules.tool("gate/manual")
