@@ -80,6 +80,11 @@ def bash_action(kind):
     return ";;" if isinstance(kind, tuple) else f'_mgtool_files {kind} "$current" ;;'
 
 
+def many(command):
+    """What bash is told of a command that takes any number of files."""
+    return " many=1" if any(operand.is_many for operand in files(command)) else ""
+
+
 def bash():
     """The file for bash."""
     valued = {option.word: option for command in COMMANDS for option in command.options if option.value is not None}
@@ -95,7 +100,7 @@ def bash():
         everywhere=words(EVERYWHERE),
         valued=" | ".join(valued),
         commands="\n".join(
-            f"    {one.name}) options='{words(options(one))}' kinds='{' '.join(operand.kind for operand in files(one))}'{' many=1' * any(operand.is_many for operand in files(one))} ;;"
+            f"    {one.name}) options='{words(options(one))}' kinds='{' '.join(operand.kind for operand in files(one))}'{many(one)} ;;"
             for one in COMMANDS
         ),
         values="\n".join(values),

@@ -87,7 +87,8 @@ def of_lost_answers(run: Runner) -> Iterator[tuple[str, bool]]:
         yield f"{shell}: no output: {status}, {error}", status == UNWRITTEN and error.endswith("answers could not be written: standard output\n")
     for option in ("--junit", "--sarif", "--codequality"):
         status, output, error = run.call([CHECK_ALL, option, "/dev/full", "one"])
-        yield f"{option} /dev/full: {error}", (status, output) == (UNWRITTEN, f"one/my.toml: {YES}\n") and error.endswith("\n/dev/full: No space left on device\n")
+        is_said = error.endswith("\n/dev/full: No space left on device\n")
+        yield f"{option} /dev/full: {error}", (status, output) == (UNWRITTEN, f"one/my.toml: {YES}\n") and is_said
     found = run.call([CHECK_ALL, "--junit", "/dev/full", "--sarif", "out.sarif", "one"])
     yield "a file behind one that can't be written", found[0] == UNWRITTEN and (run.folder / "out.sarif").is_file()
 

@@ -16,7 +16,8 @@ ANY = ()
 SCRIPT = Operand("script", "SCRIPT", "the script, a TOML document; `-` is standard input", True, "toml")
 PLAN = Operand("plan", "PLAN", "the plan of a run, a TOML document; `-` is standard input", False, "toml")
 SCRIPTS = Operand(
-    "scripts", "SCRIPT..", "the scripts, TOML documents; `-` is standard input. Of several, each answer has the name of its script before it.", True, "toml", True,
+    "scripts", "SCRIPT..", "the scripts, TOML documents; `-` is standard input. Of several, each answer has the name of its script before it.",
+    True, "toml", True,
 )
 SCENARIO = Operand("names", "SCENARIO..", "the names of scenarios; without one all are taken", False, ANY)
 CERTIFICATE = Option(
