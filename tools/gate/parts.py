@@ -21,7 +21,7 @@ PARTS = {
         "document": Part("syntax tables texts items commands limits Documents Limits Texts Written", "", "script_table digits mg_model"),
         "names": Part("named names scope DeclaredNames Places", "document", "digits mg_model toml"),
         "faults": Part("fault faults duplicates uses Faults FaultNames", "names document", "script_table mg_model toml"),
-        "meaning": Part("lookups requests named_tables build Meaning Parts", "names document faults", "toml"),
+        "meaning": Part("lookups requests build Meaning", "names document", "toml"),
     },
     "entry_table": {"sieves": Part("fixed_bits group likeness rows sieve sieves Sieves", "", "mg_names")},
     "certificate": {

@@ -1,4 +1,4 @@
-"""The crates that mgcall consists of by name, and the libraries that have to be used where each is, by `crates.txt` and by a `use` in the sources. Merging
+"""The crates that mgcall consists of by name, and the libraries that have to be used, by `crates.txt` and by a `use` in the sources. Merging
 crates or replacing a library by own code must not lose one of them."""
 import re
 from collections.abc import Iterator
@@ -13,7 +13,6 @@ CRATES = (
 LIBRARIES = {
     "toml": ("typed_values", "scriptreader", "plans"),
     "serde_json": ("certificate",),
-    "indexmap": ("script_table", "scriptreader"),
     "rayon": ("parcheck",),
     "crossbeam_queue": ("handover",),
     "slab": ("identifiers",),

@@ -1,4 +1,3 @@
-pub mod Named
 pub mod Names
 pub mod Table
 pub mod Words

@@ -1,6 +1,6 @@
 -- The names that stand at places of a script's table. A reader should check that the two predefined events lists and the predefined signals list have their own
 -- words, and that a place that the table lacks has no name.
-use Rattle.std.specs.Prelude.{ℕ, codes, List, Option, Some, option_map, slice_get}
+use Rattle.std.specs.Prelude.{ℕ, codes, List, Option, Some, None, option_map, slice_get}
 use Rattle.mg_model.specs.declared.commands.EventsName.{EventsName}
 use Rattle.mg_model.specs.declared.commands.EventsName.TheVariants.{Empty, Armed, Own}
 use Rattle.mg_model.specs.declared.commands.SignalsName.{SignalsName}

@@ -14,5 +14,3 @@ pub mod Readings
 pub mod Created
 pub mod Accepted
 pub mod FewCommands
-pub mod NamedTables
-pub mod Parts

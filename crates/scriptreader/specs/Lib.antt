@@ -9,4 +9,3 @@ pub mod Documents
 pub mod Limits
 pub mod Reading
 pub mod Laws
-pub mod Parts

@@ -9,8 +9,7 @@
 //! 2. What has a name tells it (`named`), and the names of each kind stand in one table (`names`, `scope`).
 //! 3. One fault after the other is searched for (`faults`, by `fault`'s order): those of the names that a document declares (`duplicates`), then
 //!    those of the names that it uses (`uses`) and all later ones. Each test is of the whole document and stands for itself.
-//! 4. Each name is looked up (`lookups`), each command becomes one of the table (`requests`), and so do states, lists and maps (`build`), which
-//!    stand there under their names (`named_tables`).
+//! 4. Each name is looked up (`lookups`), each command becomes one of the table (`requests`), and so do states, lists and maps (`build`).
 //!
 //! `reader` puts these together, with `faultless`. The contract of `read_script` is exact: the answer is the table that the document
 //! means, or its lowest fault, or that the bytes are no TOML; only running out of memory may stand in place of it. `laws` has what every
@@ -28,7 +27,6 @@ pub mod laws;
 mod limits;
 mod lookups;
 mod named;
-mod named_tables;
 mod names;
 mod reader;
 mod requests;

@@ -1,18 +1,30 @@
-use Rattle.std.proofs.Common.{List, ℕ, Some, ap, sym, ◌∙◌}
-use Rattle.mg_model.specs.Script.{EventsList, NamedMap, Script, State}
-use Rattle.script_table.specs.Named.{lists_of, maps_of, states_of}
-use Rattle.scriptreader.proofs.Parts.{few_lists, few_states, same_table, whole}
+use Rattle.std.proofs.Common.{length, arith, ap, sym, ◌∙◌}
+use Rattle.scriptreader.specs.Meaning.{events_list_for, state_for}
+use Rattle.scriptreader.proofs.SmallDocuments.{small}
+use Rattle.scriptreader.proofs.Lengths.{each_length}
 use Rattle.scriptreader.proofs.build.script_in.Goals as goal
 
+pub new-requires-clause-lines : goal.new-requires-clause-lines
+new-requires-clause-lines c =
+    let few = small c.args.document.now (sym c.is_too_large.ensures ∙ c.if-is_too_large.false) in
+    omega (arith, few.lines, ap (λ ts. length ts) c.in_ok-lines.ensures, ap (λ ts. length ts) c.as_slice-5.ensures.value, ap (λ d. length d.lines) c.document.view_is)
+
+pub new-requires-clause-contexts : goal.new-requires-clause-contexts
+new-requires-clause-contexts c =
+    let few = small c.args.document.now (sym c.is_too_large.ensures ∙ c.if-is_too_large.false) in
+    omega (arith, few.contexts, ap (λ ts. length ts) c.in_ok-contexts.ensures, ap (λ ts. length ts) c.as_slice-6.ensures.value, ap (λ d. length d.contexts) c.document.view_is)
+
+pub new-requires-clause-ephemerals : goal.new-requires-clause-ephemerals
+new-requires-clause-ephemerals c =
+    let few = small c.args.document.now (sym c.is_too_large.ensures ∙ c.if-is_too_large.false) in
+    omega (arith, few.ephemerals, ap (λ ts. length ts) c.in_ok-ephemerals.ensures, ap (λ ts. length ts) c.as_slice-7.ensures.value, ap (λ d. length d.ephemerals) c.document.view_is)
+
 pub new-requires-clause-lists : goal.new-requires-clause-lists
-new-requires-clause-lists c = few_lists c.args.scope.now c.args.document.now _ (sym c.is_too_large.ensures ∙ c.if-is_too_large.false) c.in_ok-lists.ensures.meant
+new-requires-clause-lists c =
+    let few = small c.args.document.now (sym c.is_too_large.ensures ∙ c.if-is_too_large.false) in
+    omega (arith, few.events, each_length (events_list_for c.args.scope.now) _ _ c.in_ok-lists.ensures, ap (λ ts. length ts) c.as_slice.ensures.value, ap (λ d. length d.events) c.document.view_is)
 
 pub new-requires-clause-states : goal.new-requires-clause-states
-new-requires-clause-states c = few_states c.args.scope.now c.args.document.now _ (sym c.is_too_large.ensures ∙ c.if-is_too_large.false) c.in_ok-course.ensures
-
-pub returns : goal.returns
-returns c =
-    let l : List EventsList × List NamedMap = (lists_of c.in_ok-lists.lists.events.entries, maps_of c.in_ok-lists.lists.maps.entries) in
-    let m : List State × (ℕ × ℕ) = (states_of c.in_ok-course.course.states.entries, (c.in_ok-course.course.start, c.in_ok-course.course.restart)) in
-    whole c.args.scope.now c.args.document.now l m (sym c.is_too_large.ensures ∙ c.if-is_too_large.false) c.in_ok-lists.ensures.meant c.in_ok-course.ensures
-    ∙ ap (λ (s : Script). Some s) (same_table c.args.document.now l m _ _ _ _ c.in_ok-named.ensures.lines c.in_ok-named.ensures.contexts c.in_ok-named.ensures.ephemerals c.in_ok-lists.ensures.signals ∙ sym c.new.ensures)
+new-requires-clause-states c =
+    let few = small c.args.document.now (sym c.is_too_large.ensures ∙ c.if-is_too_large.false) in
+    omega (arith, few.states, each_length (state_for c.args.scope.now) _ _ c.in_ok-states.ensures, ap (λ ts. length ts) c.as_slice-3.ensures.value, ap (λ d. length d.states) c.document.view_is)

@@ -1,9 +1,5 @@
-use Rattle.scriptreader.proofs.FaultlessDocuments.{faultless}
 use Rattle.scriptreader.proofs.Meanings.{never_lacks, lacks_none}
 use Rattle.scriptreader.proofs.faultless.script.Goals as goal
-
-pub script_in-requires : goal.script_in-requires
-script_in-requires c = (faultless c.args.document.now c.requires.faultless).duplicate
 
 pub unreachable-requires : goal.unreachable-requires
 unreachable-requires c =
